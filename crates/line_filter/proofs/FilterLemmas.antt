@@ -41,8 +41,8 @@ module _ (Holds : List ℕ → Type 0) where
     written = subst (Appends before after) (sym (concat-append first.kept later.kept))
         (Appends-trans before held after (concat first.kept) (concat later.kept)
         first.written later.written);
-    told = ap (λ f. f || others) first.told ∙ ap (λ f. has_some first.kept || f) later.told
-        ∙ sym (some_append first.kept later.kept);
+    reported = ap (λ f. f || others) first.reported ∙ ap (λ f. has_some first.kept || f)
+        later.reported ∙ sym (some_append first.kept later.kept);
   }
 
   -- one line was written, or left out
@@ -52,13 +52,18 @@ module _ (Holds : List ℕ → Type 0) where
     kept = line ∷ [];
     are_kept = inr (holds, ([], refl, refl));
     written = subst (Appends before after) (sym (append-nil line)) written;
-    told = refl;
+    reported = refl;
   }
 
   line_left_out : (line : List ℕ) (before : Option (List ℕ)) → ¬ (Holds line)
       → AreFiltered Holds (line ∷ []) before before false
   line_left_out line before isnt =
-      record { kept = []; are_kept = inl (isnt, refl); written = Appends-nil before; told = refl }
+      record {
+        kept = [];
+        are_kept = inl (isnt, refl);
+        written = Appends-nil before;
+        reported = refl;
+      }
 
   -- nothing was filtered yet
   pub none_yet : (lines : List (List ℕ)) (before : Option (List ℕ))
@@ -66,7 +71,7 @@ module _ (Holds : List ℕ → Type 0) where
   none_yet lines before = record {
     first = [];
     all = refl;
-    filtered = record { kept = []; are_kept = refl; written = Appends-nil before; told = refl };
+    filtered = record { kept = []; are_kept = refl; written = Appends-nil before; reported = refl };
   }
 
   -- the next lines were filtered too

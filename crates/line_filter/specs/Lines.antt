@@ -52,7 +52,7 @@ pub record AreFiltered (Holds : List ℕ → Type 0) (lines : List (List ℕ))
   pub kept : List (List ℕ)
   pub are_kept : AreKept Holds lines kept
   pub written : Appends before after (concat kept)
-  pub told : found ≡ has_some kept
+  pub reported : found ≡ has_some kept
 
 -- the first lines, up to those that are left, were filtered in this way
 pub record AreFilteredUpTo (Holds : List ℕ → Type 0) (lines left : List (List ℕ))

@@ -13,8 +13,8 @@ use Rattle.regex_lite.specs.Searches.{CanStartAt, TellsGroups}
 -- where a search finds nothing no match begins
 pub matches_nowhere : SearchesFindFirst → (rule : Expression) (line : List ℕ) → IsUtf8 line
     → CanStartAt line 0 → TellsGroups rule line 0 None → ¬ (MatchesIn rule line)
-matches_nowhere first rule line utf8 can told (at, matches) =
-    ((first rule line 0 utf8 can).no_groups.0 told).1 at (omega arith) matches
+matches_nowhere first rule line utf8 can reported (at, matches) =
+    ((first rule line 0 utf8 can).no_groups.0 reported).1 at (omega arith) matches
 
 -- the bytes of a name, if there is one
 abbrev pub text_of : Option (Bor (List ℕ)) → Option (List ℕ)

@@ -12,7 +12,7 @@ use Rattle.regex_lite_syntax.proofs.OptionLemmas.{same_some}
 use Rattle.regex_lite.specs.Laws.{Agree}
 use Rattle.regex_lite.specs.Searches.{TellsEnd}
 use Rattle.regex_lite.proofs.string.FoundLemmas.{group_0}
-use Rattle.regex_lite.proofs.OneTreeLemmas.{matches_told, one_tree}
+use Rattle.regex_lite.proofs.OneTreeLemmas.{matches_reported, one_tree}
 use Rattle.regex_lite_engine.proofs.laws.answer.AnswerAtLemmas.{way_of_found}
 
 pub same_truth : (a b : Bool) (P : Type 0) → (IsTrue a ↔ P) → (IsTrue b ↔ P) → a ≡ b
@@ -23,16 +23,16 @@ same_truth false false P p q = refl
 
 module _ (re : Expression) (haystack : List ℕ) (start : ℕ) where
   -- what is returned of an answer shows whether there is a match
-  pub answer_told : {A : Type 0} (says : Tree → Found → A → Type 0) (told : Option A)
-      → TellsAnswer says re haystack start told
-      → IsTrue (is_some told) ↔ MatchesFrom re haystack start
-  answer_told says None (tree, given, none) = (
+  pub answer_reported : {A : Type 0} (says : Tree → Found → A → Type 0) (reported : Option A)
+      → TellsAnswer says re haystack start reported
+      → IsTrue (is_some reported) ↔ MatchesFrom re haystack start
+  answer_reported says None (tree, given, none) = (
     λ some. absurd (false≢true some),
     λ matches.
         absurd (none (subst (λ t. HasMatchFrom t (chars haystack) (search_start haystack start))
         (one_tree re.flags (chars re.pattern) matches.0 tree matches.1 given) matches.2)),
   )
-  answer_told says (Some a) (tree, given, (f, is, of)) =
+  answer_reported says (Some a) (tree, given, (f, is, of)) =
       let own = found_match tree (chars haystack) (regular_tree tree (re.flags, _, given))
       (search_start haystack start) f is in
       (λ some. (tree, given, (f.start, f.end, own)), λ matches. refl)
@@ -61,15 +61,15 @@ module _ (re : Expression) (haystack : List ℕ) (start : ℕ) where
       → (IsTrue found ↔ MatchesFrom re haystack start) → TellsMatch re haystack start m
       → TellsGroups re haystack start groups → TellsEnd re haystack start end
       → Agree found m groups end
-  agree found m groups end told tells_match tells_groups tells_end =
-      let by_match = answer_told _ m tells_match in
-      let by_groups = answer_told _ groups tells_groups in
-      let by_end = matches_told re haystack start end (is_some end) refl tells_end in
+  agree found m groups end reported tells_match tells_groups tells_end =
+      let by_match = answer_reported _ m tells_match in
+      let by_groups = answer_reported _ groups tells_groups in
+      let by_end = matches_reported re haystack start end (is_some end) refl tells_end in
       let Matching : Type 0 = MatchesFrom re haystack start in
       record {
-        with_match = same_truth (is_some m) found Matching by_match told;
-        with_groups = same_truth (is_some groups) found Matching by_groups told;
-        with_end = same_truth (is_some end) found Matching by_end told;
+        with_match = same_truth (is_some m) found Matching by_match reported;
+        with_groups = same_truth (is_some groups) found Matching by_groups reported;
+        with_end = same_truth (is_some end) found Matching by_end reported;
         whole = same_whole m groups
             (same_truth (is_some m) (is_some groups) Matching by_match by_groups)
             tells_match tells_groups;

@@ -74,32 +74,33 @@ module _ {Z : Type 0} (start a : Ahead) (same : CowStr Z) (made : List ℕ) wher
   -- so what holds of what was made with the rest of the haystack holds of the new text
   pub so_finished : {E : Type 0} (ended : Option ℕ) (result : Result (CowStr Z × ℕ) E)
       (P : List ℕ → Type 0)
-      → IfOk result (λ told. IsFinished same made ended told.0)
+      → IfOk result (λ reported. IsFinished same made ended reported.0)
       → cow_str_bytes same ≡ start.haystack
       → IsBegun start a made ended → P (made ++ drop (unwrap_or ended 0) start.haystack)
-      → IfOk result (λ told. P (cow_str_bytes told.0))
+      → IfOk result (λ reported. P (cow_str_bytes reported.0))
   so_finished ended result P finished is begun holds =
-      IfOk-weaker result (λ told. IsFinished same made ended told.0)
-      (λ told. P (cow_str_bytes told.0))
-      (λ told h. subst P (sym (text_finished ended is begun told.0 h)) holds) finished
+      IfOk-weaker result (λ reported. IsFinished same made ended reported.0)
+      (λ reported. P (cow_str_bytes reported.0))
+      (λ reported h. subst P (sym (text_finished ended is begun reported.0 h)) holds) finished
 
   -- where none was ahead it is the haystack itself
   pub borrowed_where_over : {E : Type 0} (ended : Option ℕ) (result : Result (CowStr Z × ℕ) E)
-      (other : CowStr Z) → IfOk result (λ told. IsFinished same made ended told.0) → same ≡ other
-      → IsBegun start a made ended → IfOk result (λ told. IsOver start → told.0 ≡ other)
+      (other : CowStr Z) → IfOk result (λ reported. IsFinished same made ended reported.0) → same
+      ≡ other → IsBegun start a made ended → IfOk result
+      (λ reported. IsOver start → reported.0 ≡ other)
   borrowed_where_over ended result other finished is begun =
-      IfOk-weaker result (λ told. IsFinished same made ended told.0)
-      (λ told. IsOver start → told.0 ≡ other)
-      (λ told h over. borrowed_finished ended begun told.0 h over ∙ is) finished
+      IfOk-weaker result (λ reported. IsFinished same made ended reported.0)
+      (λ reported. IsOver start → reported.0 ≡ other)
+      (λ reported h over. borrowed_finished ended begun reported.0 h over ∙ is) finished
 
   -- and else one of its own
   pub owned_where_some : {E : Type 0} (ended : Option ℕ) (result : Result (CowStr Z × ℕ) E)
-      → IfOk result (λ told. IsFinished same made ended told.0) → IsBegun start a made ended
-      → IsOver a → IfOk result (λ told. (IsOver start → ⊥) → IsOwnedStr told.0)
+      → IfOk result (λ reported. IsFinished same made ended reported.0) → IsBegun start a made ended
+      → IsOver a → IfOk result (λ reported. (IsOver start → ⊥) → IsOwnedStr reported.0)
   owned_where_some ended result finished begun over =
-      IfOk-weaker result (λ told. IsFinished same made ended told.0)
-      (λ told. (IsOver start → ⊥) → IsOwnedStr told.0)
-      (λ told h. owned_finished ended begun over told.0 h) finished
+      IfOk-weaker result (λ reported. IsFinished same made ended reported.0)
+      (λ reported. (IsOver start → ⊥) → IsOwnedStr reported.0)
+      (λ reported h. owned_finished ended begun over reported.0 h) finished
 
 pub from_start : (haystack : List ℕ) → search_start haystack 0 ≡ 0
 from_start haystack = omega (arith, ap length chars-nil)

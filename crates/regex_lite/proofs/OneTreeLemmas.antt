@@ -21,31 +21,31 @@ of_both re P Q (tree, given, p) (other, given_too, q) =
     (tree, given, (p, subst Q one q))
 
 -- the least end shows whether the pattern matches
-pub matches_told : (re : Expression) (haystack : List ℕ) (start : ℕ) (end : Option ℕ) (found : Bool)
-    → found ≡ is_some end → TellsEnd re haystack start end
+pub matches_reported : (re : Expression) (haystack : List ℕ) (start : ℕ) (end : Option ℕ)
+    (found : Bool) → found ≡ is_some end → TellsEnd re haystack start end
     → IsTrue found ↔ MatchesFrom re haystack start
-matches_told re haystack start None found is (tree, given, none) = (
+matches_reported re haystack start None found is (tree, given, none) = (
   λ yes_found. absurd (false≢true (sym is ∙ yes_found)),
   λ matches.
       absurd (none (subst (λ t. HasMatchFrom t (chars haystack) (search_start haystack start))
       (one_tree re.flags (chars re.pattern) matches.0 tree matches.1 given) matches.2)),
 )
-matches_told re haystack start (Some at) found is (tree, given, (end, least, same)) =
+matches_reported re haystack start (Some at) found is (tree, given, (end, least, same)) =
     (λ yes_found. (tree, given, (least.start, end, least.is_match)), λ matches. is)
 
 -- whether its tree matches is whether the pattern does
-pub has_told : (re : Expression) (haystack : List ℕ) (start : ℕ) (found : Bool)
+pub has_reported : (re : Expression) (haystack : List ℕ) (start : ℕ) (found : Bool)
     → OfTree re (λ tree. IsTrue found
     ↔ HasMatchFrom tree (chars haystack) (search_start haystack start))
     → IsTrue found ↔ MatchesFrom re haystack start
-has_told re haystack start found (tree, given, told) = (
-  λ yes_found. (tree, given, told.0 yes_found),
+has_reported re haystack start found (tree, given, reported) = (
+  λ yes_found. (tree, given, reported.0 yes_found),
   λ matches.
-      told.1 (subst (λ t. HasMatchFrom t (chars haystack) (search_start haystack start))
+      reported.1 (subst (λ t. HasMatchFrom t (chars haystack) (search_start haystack start))
       (one_tree re.flags (chars re.pattern) matches.0 tree matches.1 given) matches.2),
 )
 
 -- a pattern may be empty exactly if it isn't told that each match reads
-pub empty_told : (reads empty : Bool) → reads ≡ not empty → not reads ≡ empty
-empty_told reads true is = ap not is
-empty_told reads false is = ap not is
+pub empty_reported : (reads empty : Bool) → reads ≡ not empty → not reads ≡ empty
+empty_reported reads true is = ap not is
+empty_reported reads false is = ap not is

@@ -61,12 +61,13 @@ counts_one_more {start} {old} {new} {found} {count} so_far passes one = record {
 
 -- so at the end all are counted
 pub counted_at_end : {T E : Type 0} {start a : Ahead} {count : ℕ} (result : Result (T × ℕ) E)
-    → Counts start a count → IsOver a → IfOk result (λ told. told.1 ≡ count)
-    → IfOk result (λ told. AreSoManyAhead start told.1)
+    → Counts start a count → IsOver a → IfOk result (λ reported. reported.1 ≡ count)
+    → IfOk result (λ reported. AreSoManyAhead start reported.1)
 counted_at_end {start} {a} {count} result so_far over =
     let all = so_far.on 0 ([], ahead_nil a over, refl) in
-    IfOk-weaker result (λ told. told.1 ≡ count) (λ told. AreSoManyAhead start told.1)
-    (λ told is. (all.0, all.1, omega (arith, all.2, is)))
+    IfOk-weaker result (λ reported. reported.1 ≡ count)
+    (λ reported. AreSoManyAhead start reported.1)
+    (λ reported is. (all.0, all.1, omega (arith, all.2, is)))
 
 module _ {R : Type 0} (Fixed : R → Option (List ℕ) → R → Type 0)
     (Appends : R → Groups → List ℕ → Answer → R → Type 0) where

@@ -6,8 +6,9 @@ use Rattle.regex_lite_syntax.proofs.OptionLemmas.{not_there, same_some}
 use Rattle.regex_lite.proofs.OneTreeLemmas.{one_tree}
 
 pub static_number : (re : Expression) (haystack : List ℕ) (start : ℕ) (known : Option ℕ)
-    (told : Option Groups) (groups : Groups) → OfTree re (λ tree. known ≡ static_captures_len tree)
-    → TellsGroups re haystack start told → told ≡ Some groups → groups.static_captures_len ≡ known
+    (reported : Option Groups) (groups : Groups) → OfTree re
+    (λ tree. known ≡ static_captures_len tree) → TellsGroups re haystack start reported → reported
+    ≡ Some groups → groups.static_captures_len ≡ known
 static_number re haystack start known None groups is_known tells is = absurd (not_there is)
 static_number re haystack start known (Some own) groups (tree, given, e)
     (other, given_too, (f, found, are)) is =

@@ -17,10 +17,10 @@ pub mod ListKeptLemmas
 pub mod ListLemmas
 pub mod ListScanLemmas
 pub mod ListSlotLemmas
-pub mod ListToldLemmas
+pub mod ListReportedLemmas
 pub mod ListedLemmas
 pub mod NextLemmas
 pub mod PieceLemmas
 pub mod ScanLemmas
 pub mod SlotLemmas
-pub mod ToldLemmas
+pub mod ReportedLemmas

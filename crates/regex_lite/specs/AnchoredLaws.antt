@@ -18,14 +18,14 @@ use Rattle.regex_lite.specs.Searches.{CanStartAt, TellsGroups, TellsLocations, T
 -- an anchored search for a pattern at this offset returns what the search from there returns,
 -- exactly if that match starts there
 pub record IsSearchAt (re : Expression) (haystack : List ℕ) (start : ℕ) : Type 0 where
-  pub match : (told : Match) → TellsMatchAt re haystack start (Some told)
-      ↔ (TellsMatch re haystack start (Some told) × ((span_of_match told).0 ≡ start))
-  pub groups : (told : Groups) → TellsGroupsAt re haystack start (Some told)
-      ↔ (TellsGroups re haystack start (Some told) × ((whole_span told).0 ≡ start))
-  pub locations : (spans : List (Option (ℕ × ℕ))) (told : Match)
-      → TellsLocationsAt re haystack start spans (Some told)
-      ↔ (TellsLocations re haystack start spans (Some told)
-      × ((span_of_match told).0 ≡ start))
+  pub match : (reported : Match) → TellsMatchAt re haystack start (Some reported)
+      ↔ (TellsMatch re haystack start (Some reported) × ((span_of_match reported).0 ≡ start))
+  pub groups : (reported : Groups) → TellsGroupsAt re haystack start (Some reported)
+      ↔ (TellsGroups re haystack start (Some reported) × ((whole_span reported).0 ≡ start))
+  pub locations : (spans : List (Option (ℕ × ℕ))) (reported : Match)
+      → TellsLocationsAt re haystack start spans (Some reported)
+      ↔ (TellsLocations re haystack start spans (Some reported)
+      × ((span_of_match reported).0 ≡ start))
 
 abbrev pub AnchoredSearchesAreSearches : Type 0
 AnchoredSearchesAreSearches =
@@ -36,14 +36,16 @@ AnchoredSearchesAreSearches =
 -- returns, exactly if that match starts there
 pub record IsListSearchAt (list : List Expression) (haystack : List ℕ) (start : ℕ)
     : Type 0 where
-  pub match : (told : ℕ × Match) → TellsMatchAtOfList list haystack start (Some told)
-      ↔ (TellsMatchOfList list haystack start (Some told) × ((span_of_match told.1).0 ≡ start))
-  pub groups : (told : ℕ × Groups) → TellsGroupsAtOfList list haystack start (Some told)
-      ↔ (TellsGroupsOfList list haystack start (Some told) × ((whole_span told.1).0 ≡ start))
-  pub locations : (spans : List (Option (ℕ × ℕ))) (told : ℕ × Match)
-      → TellsLocationsAtOfList list haystack start spans (Some told)
-      ↔ (TellsLocationsOfList list haystack start spans (Some told)
-      × ((span_of_match told.1).0 ≡ start))
+  pub match : (reported : ℕ × Match) → TellsMatchAtOfList list haystack start (Some reported)
+      ↔ (TellsMatchOfList list haystack start (Some reported)
+      × ((span_of_match reported.1).0 ≡ start))
+  pub groups : (reported : ℕ × Groups) → TellsGroupsAtOfList list haystack start (Some reported)
+      ↔ (TellsGroupsOfList list haystack start (Some reported)
+      × ((whole_span reported.1).0 ≡ start))
+  pub locations : (spans : List (Option (ℕ × ℕ))) (reported : ℕ × Match)
+      → TellsLocationsAtOfList list haystack start spans (Some reported)
+      ↔ (TellsLocationsOfList list haystack start spans (Some reported)
+      × ((span_of_match reported.1).0 ≡ start))
 
 abbrev pub AnchoredListSearchesAreSearches : Type 0
 AnchoredListSearchesAreSearches =
@@ -60,15 +62,15 @@ pub record IsMatchAt (re : Expression) (haystack : List ℕ) (start : ℕ) (span
 -- the anchored searches for a pattern at this offset, in terms of the offsets at which it matches
 pub record FindsAt (re : Expression) (haystack : List ℕ) (start : ℕ) : Type 0 where
   -- a match may be returned exactly if it is the one that the pattern prefers there
-  pub found : (told : Match) → TellsMatchAt re haystack start (Some told)
-      ↔ ((haystack_of_match told ≡ haystack)
-      × IsMatchAt re haystack start (span_of_match told))
+  pub found : (reported : Match) → TellsMatchAt re haystack start (Some reported)
+      ↔ ((haystack_of_match reported ≡ haystack)
+      × IsMatchAt re haystack start (span_of_match reported))
   -- nothing is returned exactly if the pattern has a tree and no match begins there
   pub none : TellsMatchAt re haystack start None
       ↔ (HasTree re.flags (chars re.pattern) × (MatchesAt re haystack start → ⊥))
   -- the search for groups finds the preferred match, or nothing if none begins there
-  pub groups : (told : Groups) → TellsGroupsAt re haystack start (Some told)
-      → IsMatchAt re haystack start (whole_span told)
+  pub groups : (reported : Groups) → TellsGroupsAt re haystack start (Some reported)
+      → IsMatchAt re haystack start (whole_span reported)
   pub no_groups : TellsGroupsAt re haystack start None
       ↔ (HasTree re.flags (chars re.pattern) × (MatchesAt re haystack start → ⊥))
 
@@ -90,15 +92,15 @@ pub record IsMatchAtOfList (list : List Expression) (haystack : List ℕ) (start
 -- the anchored searches for several patterns at this offset, in terms of the offsets at which they
 -- match
 pub record ListFindsAt (list : List Expression) (haystack : List ℕ) (start : ℕ) : Type 0 where
-  pub found : (number : ℕ) (told : Match)
-      → TellsMatchAtOfList list haystack start (Some (number, told))
-      ↔ (HaveTrees list × (haystack_of_match told ≡ haystack)
-      × IsMatchAtOfList list haystack start number (span_of_match told))
+  pub found : (number : ℕ) (reported : Match)
+      → TellsMatchAtOfList list haystack start (Some (number, reported))
+      ↔ (HaveTrees list × (haystack_of_match reported ≡ haystack)
+      × IsMatchAtOfList list haystack start number (span_of_match reported))
   pub none : TellsMatchAtOfList list haystack start None
       ↔ (HaveTrees list × (SomeMatchesAt list haystack start → ⊥))
-  pub groups : (number : ℕ) (told : Groups)
-      → TellsGroupsAtOfList list haystack start (Some (number, told))
-      → IsMatchAtOfList list haystack start number (whole_span told)
+  pub groups : (number : ℕ) (reported : Groups)
+      → TellsGroupsAtOfList list haystack start (Some (number, reported))
+      → IsMatchAtOfList list haystack start number (whole_span reported)
   pub no_groups : TellsGroupsAtOfList list haystack start None
       ↔ (HaveTrees list × (SomeMatchesAt list haystack start → ⊥))
 

@@ -28,8 +28,8 @@ pub record AreLawful {A : Type 0} (found_of : A → Found) (haystack : Text)
 abbrev pub TellsOfAnswer : {A T : Type 0} → (Answers : (s : ℕ) → Option A → Type 0)
     → (says : A → T → Type 0) → (s : ℕ) → Option T → Type 0
 TellsOfAnswer Answers says s None = Answers s None
-TellsOfAnswer {A} Answers says s (Some told) =
-    (answer : A) × Answers s (Some answer) × says answer told
+TellsOfAnswer {A} Answers says s (Some reported) =
+    (answer : A) × Answers s (Some answer) × says answer reported
 
 -- the answer from this offset on is empty there
 abbrev pub IsEmptyAnswerFrom : {A : Type 0} → (found_of : A → Found)
@@ -41,6 +41,6 @@ IsEmptyAnswerFrom {A} found_of Answers haystack at =
 -- where the match that is returned is empty, the answer from there is empty there
 abbrev pub IsAnswerWhereEmpty : {A N : Type 0} → (found_of : A → Found)
     → (Answers : (s : ℕ) → Option A → Type 0) → (haystack : List ℕ) → Option (N × Match) → Type 0
-IsAnswerWhereEmpty found_of Answers haystack told =
-    IfSome told (λ own. (span_of_match own.1).0 ≡ (span_of_match own.1).1
+IsAnswerWhereEmpty found_of Answers haystack reported =
+    IfSome reported (λ own. (span_of_match own.1).0 ≡ (span_of_match own.1).1
     → IsEmptyAnswerFrom found_of Answers haystack (span_of_match own.1).1)

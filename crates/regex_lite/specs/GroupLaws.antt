@@ -16,19 +16,19 @@ use Rattle.regex_lite.specs.Searches.{TellsGroups, TellsMatch}
 abbrev pub MatchIsGroup0 : Type 0
 MatchIsGroup0 =
     (re : Expression) (haystack : List ℕ) (start : ℕ) (groups : Groups)
-    → TellsGroups re haystack start (Some groups) → (told : Match)
-    → TellsMatch re haystack start (Some told)
-    ↔ ((haystack_of_match told ≡ groups.haystack)
-    × (group_span groups 0 ≡ Some (span_of_match told)))
+    → TellsGroups re haystack start (Some groups) → (reported : Match)
+    → TellsMatch re haystack start (Some reported)
+    ↔ ((haystack_of_match reported ≡ groups.haystack)
+    × (group_span groups 0 ≡ Some (span_of_match reported)))
 
 -- for several patterns group 0 is the match too, and both searches return the same number
 abbrev pub ListMatchIsGroup0 : Type 0
 ListMatchIsGroup0 =
     (list : List Expression) (haystack : List ℕ) (start number : ℕ) (groups : Groups)
-    → TellsGroupsOfList list haystack start (Some (number, groups)) → (other : ℕ) (told : Match)
-    → TellsMatchOfList list haystack start (Some (other, told))
-    ↔ ((other ≡ number) × (haystack_of_match told ≡ groups.haystack)
-    × (group_span groups 0 ≡ Some (span_of_match told)))
+    → TellsGroupsOfList list haystack start (Some (number, groups)) → (other : ℕ) (reported : Match)
+    → TellsMatchOfList list haystack start (Some (other, reported))
+    ↔ ((other ≡ number) × (haystack_of_match reported ≡ groups.haystack)
+    × (group_span groups 0 ≡ Some (span_of_match reported)))
 
 -- group 0 of each match ahead has the span of the match
 abbrev pub GroupsHaveTheirSpans : Type 0

@@ -24,10 +24,12 @@ pub record Headline (settings : Settings) (haystack : List ℕ) (start : ℕ)
   pub refused : IfErr result (λ error. IsDue settings error)
   -- the answer is the least start from which the tree matches, with the end and the groups of the
   -- most preferred way from there that visits no place twice at one position, or there is no match
-  pub answer : IfOk result (λ told. TellsGroups (expression_of settings) haystack start told.0)
+  pub answer : IfOk result
+      (λ reported. TellsGroups (expression_of settings) haystack start reported.0)
   -- the search tried at most (arrows + 1) × (characters left + 1) places, entered no more than it
   -- tried, and looked at most twice as often
-  pub cost : IfOk result (λ told. IsWithinCost (expression_of settings) haystack start told.1)
+  pub cost : IfOk result
+      (λ reported. IsWithinCost (expression_of settings) haystack start reported.1)
 
 -- the promise for several patterns that are searched for at once, each under its own settings
 pub record ListHeadline (all : List Settings) (haystack : List ℕ) (start : ℕ)
@@ -43,7 +45,7 @@ pub record ListHeadline (all : List Settings) (haystack : List ℕ) (start : ℕ
   -- the answer begins where the first match of any pattern does, and is that of the pattern with
   -- the lowest number that matches from there, with its own groups; or there is no match
   pub answer : IfOk result
-      (λ told. TellsGroupsOfList (map expression_of all) haystack start told.0)
+      (λ reported. TellsGroupsOfList (map expression_of all) haystack start reported.0)
   -- the search tried at most (arrows + patterns) × (characters left + 1) places
   pub cost : IfOk result
-      (λ told. IsWithinListCost (map expression_of all) haystack start told.1)
+      (λ reported. IsWithinListCost (map expression_of all) haystack start reported.1)

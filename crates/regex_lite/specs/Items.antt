@@ -18,8 +18,8 @@ abbrev pub GivesMatch : (old : Scanning Expression) → Option Match → (new : 
     → Type 0
 GivesMatch old item new =
     MatchOption item (Ends (ahead_of old) (ahead_of new))
-    (λ told. (found : Found) × IsMatchOf old.haystack found told
-    × IsOnward old.ended (span_of_match told) × (new.ended ≡ Some (span_of_match told).1)
+    (λ reported. (found : Found) × IsMatchOf old.haystack found reported
+    × IsOnward old.ended (span_of_match reported) × (new.ended ≡ Some (span_of_match reported).1)
     × Passes (ahead_of old) found (ahead_of new))
 
 -- for any finder, of one pattern or several: the next match was returned with the number of its
@@ -27,17 +27,18 @@ GivesMatch old item new =
 module _ {F S A N : Type 0} (sought : F → S) (slots : F → List (Option ℕ)) (found_of : A → Found)
     (number_of : A → N) (IsAnswerTo : S → Text → (s : ℕ) → Option A → Type 0) where
   abbrev pub Came : (old : Scanning F) → N × Match → (new : Scanning F) → Type 0
-  Came old told new =
+  Came old reported new =
       (answer : A)
-      × IsMatchWithSlots found_of number_of old.haystack (slots new.finder) answer told
-      × IsOnward old.ended (span_of_match told.1) × (new.ended ≡ Some (span_of_match told.1).1)
-      × PassesAnswer found_of IsAnswerTo (ahead_by sought old) answer (ahead_by sought new)
+      × IsMatchWithSlots found_of number_of old.haystack (slots new.finder) answer reported
+      × IsOnward old.ended (span_of_match reported.1)
+      × (new.ended ≡ Some (span_of_match reported.1).1) × PassesAnswer found_of IsAnswerTo
+      (ahead_by sought old) answer (ahead_by sought new)
 
   abbrev pub GivesNext : (old : Scanning F) → Option (N × Match) → (new : Scanning F) → Type 0
   GivesNext old item new =
       MatchOption item
       (EndsAhead found_of IsAnswerTo (ahead_by sought old) (ahead_by sought new))
-      (λ told. Came old told new)
+      (λ reported. Came old reported new)
 
 -- the groups of the next match were returned with the number of its pattern; or memory ran out for
 -- them, or there was no match, and none comes from then on
@@ -45,10 +46,10 @@ module _ {F S A N : Type 0} (sought : F → S) (found_of : A → Found) (number_
     (IsAnswerTo : S → Text → (s : ℕ) → Option A → Type 0)
     (AreFound : S → (haystack : List ℕ) → A → Groups → Type 0) where
   abbrev pub GroupsCame : (old : Scanning F) → N × Groups → (new : Scanning F) → Type 0
-  GroupsCame old told new =
-      (answer : A) × (told.0 ≡ number_of answer)
-      × AreFound (sought old.finder) old.haystack answer told.1
-      × IsOnward old.ended (whole_span told.1) × (new.ended ≡ Some (whole_span told.1).1)
+  GroupsCame old reported new =
+      (answer : A) × (reported.0 ≡ number_of answer)
+      × AreFound (sought old.finder) old.haystack answer reported.1
+      × IsOnward old.ended (whole_span reported.1) × (new.ended ≡ Some (whole_span reported.1).1)
       × PassesAnswer found_of IsAnswerTo (ahead_by sought old) answer (ahead_by sought new)
 
   abbrev pub GivesNextGroups : (old : Scanning F) → Option (Result (N × Groups) Error)
@@ -56,7 +57,7 @@ module _ {F S A N : Type 0} (sought : F → S) (found_of : A → Found) (number_
   GivesNextGroups old item new =
       MatchOption item
       (EndsAhead found_of IsAnswerTo (ahead_by sought old) (ahead_by sought new))
-      (λ answer. MatchResult answer (λ told. GroupsCame old told new)
+      (λ answer. MatchResult answer (λ reported. GroupsCame old reported new)
       (λ error. (error ≡ out_of_memory)
       × (NoneIsAhead found_of IsAnswerTo (ahead_by sought old) → ⊥)
       × (ahead_by sought new ≡ at_end (ahead_by sought old))))

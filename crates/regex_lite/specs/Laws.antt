@@ -19,22 +19,22 @@ use Rattle.regex_lite.specs.Settings.{Settings, default_settings}
 
 -- a search for whether there is a match, one for the match, one for its groups and one for the
 -- least end agree
-pub record Agree (found : Bool) (told : Option Match) (groups : Option Groups) (end : Option ℕ)
+pub record Agree (found : Bool) (reported : Option Match) (groups : Option Groups) (end : Option ℕ)
     : Type 0 where
-  pub with_match : is_some told ≡ found
+  pub with_match : is_some reported ≡ found
   pub with_groups : is_some groups ≡ found
   pub with_end : is_some end ≡ found
   -- the match is group 0
-  pub whole : option_map span_of_match told ≡ option_and_then (λ own. group_span own 0) groups
+  pub whole : option_map span_of_match reported ≡ option_and_then (λ own. group_span own 0) groups
 
 -- the searches for one pattern, in one haystack and from one offset on, agree
 abbrev pub SearchesAgree : Type 0
 SearchesAgree =
-    (re : Expression) (haystack : List ℕ) (start : ℕ) (found : Bool) (told : Option Match)
+    (re : Expression) (haystack : List ℕ) (start : ℕ) (found : Bool) (reported : Option Match)
     (groups : Option Groups) (end : Option ℕ)
-    → (IsTrue found ↔ MatchesFrom re haystack start) → TellsMatch re haystack start told
+    → (IsTrue found ↔ MatchesFrom re haystack start) → TellsMatch re haystack start reported
     → TellsGroups re haystack start groups → TellsEnd re haystack start end
-    → Agree found told groups end
+    → Agree found reported groups end
 
 -- a span lies inside that of the match, and in the haystack on character boundaries
 pub record LiesInside (haystack : List ℕ) (whole span : ℕ × ℕ) : Type 0 where

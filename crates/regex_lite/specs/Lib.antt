@@ -58,7 +58,7 @@ pub mod CompiledList
 pub mod Slots
 pub mod Answers
 pub mod Scanning
-pub mod ToldWays
+pub mod ReportedWays
 pub mod PiecesLeft
 pub mod Keeping
 pub mod NextMatch

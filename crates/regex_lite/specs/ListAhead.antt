@@ -55,9 +55,10 @@ abbrev pub GivesListMatch : (old : Scanning (List Expression)) → Option (ℕ �
     → (new : Scanning (List Expression)) → Type 0
 GivesListMatch old item new =
     MatchOption item (ListEnds (list_ahead_of old) (list_ahead_of new))
-    (λ told. (found : Found) × IsMatchOf old.haystack found told.1
-    × IsOnward old.ended (span_of_match told.1) × (new.ended ≡ Some (span_of_match told.1).1)
-    × ListPasses (list_ahead_of old) (told.0, found) (list_ahead_of new))
+    (λ reported. (found : Found) × IsMatchOf old.haystack found reported.1
+    × IsOnward old.ended (span_of_match reported.1)
+    × (new.ended ≡ Some (span_of_match reported.1).1) × ListPasses (list_ahead_of old)
+    (reported.0, found) (list_ahead_of new))
 
 -- the groups are those of what was found of the pattern with this number
 abbrev pub AreGroupsFoundInList : List Expression → (haystack : List ℕ) → (number : ℕ) → Found
@@ -73,8 +74,9 @@ abbrev pub GivesListGroups : (old : Scanning (List Expression))
 GivesListGroups old item new =
     MatchOption item (ListEnds (list_ahead_of old) (list_ahead_of new))
     (λ answer. MatchResult answer
-    (λ told. (found : Found) × AreGroupsFoundInList old.finder old.haystack told.0 found told.1
-    × IsOnward old.ended (whole_span told.1) × (new.ended ≡ Some (whole_span told.1).1)
-    × ListPasses (list_ahead_of old) (told.0, found) (list_ahead_of new))
+    (λ reported. (found : Found) × AreGroupsFoundInList old.finder old.haystack reported.0 found
+    reported.1 × IsOnward old.ended (whole_span reported.1)
+    × (new.ended ≡ Some (whole_span reported.1).1) × ListPasses (list_ahead_of old)
+    (reported.0, found) (list_ahead_of new))
     (λ error. (error ≡ out_of_memory) × (IsListOver (list_ahead_of old) → ⊥)
     × (list_ahead_of new ≡ at_end (list_ahead_of old))))

@@ -18,12 +18,12 @@ module _ {A N : Type 0} (found_of : A → Found) (number_of : A → N)
       → Option (N × Match) → Type 0
   TellsNextMatch ended slots None =
       IsNextAnswer found_of Answers (option_map (position_at haystack) ended) None
-  TellsNextMatch ended slots (Some told) =
+  TellsNextMatch ended slots (Some reported) =
       (answer : A)
       × IsNextAnswer found_of Answers (option_map (position_at haystack) ended) (Some answer)
-      × IsMatchWithSlots found_of number_of haystack slots answer told
-      × (position_at haystack (span_of_match told.1).1 ≡ (found_of answer).end)
-      × IsOnward ended (span_of_match told.1)
+      × IsMatchWithSlots found_of number_of haystack slots answer reported
+      × (position_at haystack (span_of_match reported.1).1 ≡ (found_of answer).end)
+      × IsOnward ended (span_of_match reported.1)
 
 -- a search from this offset on is a search from the next position on
 pub record IsNextOffset (haystack : List ℕ) (at next : ℕ) : Type 0 where

@@ -17,15 +17,15 @@ pub record FindsFirst (re : Expression) (haystack : List ℕ) (start : ℕ) : Ty
   pub matches :
       MatchesFrom re haystack start ↔ ((at : ℕ) × (start ≤ at) × MatchesAt re haystack at)
   -- a match may be returned exactly if it is the first match
-  pub found : (told : Match) → TellsMatch re haystack start (Some told)
-      ↔ ((haystack_of_match told ≡ haystack)
-      × IsFirstMatch re haystack start (span_of_match told))
+  pub found : (reported : Match) → TellsMatch re haystack start (Some reported)
+      ↔ ((haystack_of_match reported ≡ haystack)
+      × IsFirstMatch re haystack start (span_of_match reported))
   -- nothing is returned exactly if the pattern has a tree and no match begins there or later
   pub none : TellsMatch re haystack start None
       ↔ (HasTree re.flags (chars re.pattern) × MatchesNowhere re haystack start)
   -- the search for groups finds the first match, or nothing if there is none
-  pub groups : (told : Groups) → TellsGroups re haystack start (Some told)
-      → IsFirstMatch re haystack start (whole_span told)
+  pub groups : (reported : Groups) → TellsGroups re haystack start (Some reported)
+      → IsFirstMatch re haystack start (whole_span reported)
   pub no_groups : TellsGroups re haystack start None
       ↔ (HasTree re.flags (chars re.pattern) × MatchesNowhere re haystack start)
 
@@ -46,15 +46,15 @@ pub record ListFindsFirst (list : List Expression) (haystack : List ℕ) (start 
     : Type 0 where
   pub matches : AnyMatches list haystack start
       ↔ (HaveTrees list × SomeMatches list haystack start)
-  pub found : (number : ℕ) (told : Match)
-      → TellsMatchOfList list haystack start (Some (number, told))
-      ↔ (HaveTrees list × (haystack_of_match told ≡ haystack)
-      × IsFirstOfList list haystack start number (span_of_match told))
+  pub found : (number : ℕ) (reported : Match)
+      → TellsMatchOfList list haystack start (Some (number, reported))
+      ↔ (HaveTrees list × (haystack_of_match reported ≡ haystack)
+      × IsFirstOfList list haystack start number (span_of_match reported))
   pub none : TellsMatchOfList list haystack start None
       ↔ (HaveTrees list × NoneMatches list haystack start)
-  pub groups : (number : ℕ) (told : Groups)
-      → TellsGroupsOfList list haystack start (Some (number, told))
-      → IsFirstOfList list haystack start number (whole_span told)
+  pub groups : (number : ℕ) (reported : Groups)
+      → TellsGroupsOfList list haystack start (Some (number, reported))
+      → IsFirstOfList list haystack start number (whole_span reported)
   pub no_groups : TellsGroupsOfList list haystack start None
       ↔ (HaveTrees list × NoneMatches list haystack start)
 

@@ -33,45 +33,45 @@ TellsWhichMatch list haystack start matched =
 abbrev pub TellsOfList : {A : Type 0} → (says : Tree → Found → A → Type 0)
     → List Tree → Text → (s : ℕ) → Option (ℕ × A) → Type 0
 TellsOfList says trees haystack s None = IsAnswerOfList trees haystack s None
-TellsOfList says trees haystack s (Some told) =
-    (found : Found) × (answer : IsFoundInList trees haystack s told.0 found)
-    × says answer.tree found told.1
+TellsOfList says trees haystack s (Some reported) =
+    (found : Found) × (answer : IsFoundInList trees haystack s reported.0 found)
+    × says answer.tree found reported.1
 
 -- what a search for the patterns from this offset on returns, in the same way
 abbrev pub TellsAnswerOfList : {A : Type 0} → (says : Tree → Found → A → Type 0)
     → List Expression → (haystack : List ℕ) → (start : ℕ) → Option (ℕ × A) → Type 0
-TellsAnswerOfList says list haystack start told =
+TellsAnswerOfList says list haystack start reported =
     OfTrees list (λ trees.
-    TellsOfList says trees (chars haystack) (search_start haystack start) told)
+    TellsOfList says trees (chars haystack) (search_start haystack start) reported)
 
 -- the search returns the match, with the number of its pattern
 abbrev pub TellsMatchOfList : List Expression → (haystack : List ℕ) → (start : ℕ)
     → Option (ℕ × Match) → Type 0
-TellsMatchOfList list haystack start told =
-    TellsAnswerOfList (λ tree. IsMatchOf haystack) list haystack start told
+TellsMatchOfList list haystack start reported =
+    TellsAnswerOfList (λ tree. IsMatchOf haystack) list haystack start reported
 
 -- the search returns the groups, with the number of their pattern
 abbrev pub TellsGroupsOfList : List Expression → (haystack : List ℕ) → (start : ℕ)
     → Option (ℕ × Groups) → Type 0
-TellsGroupsOfList list haystack start told =
-    TellsAnswerOfList (λ tree. AreGroupsOf tree haystack) list haystack start told
+TellsGroupsOfList list haystack start reported =
+    TellsAnswerOfList (λ tree. AreGroupsOf tree haystack) list haystack start reported
 
 -- these are the groups of a match of the pattern with this number
-pub record AreOfPattern (list : List Expression) (told : ℕ × Groups) : Type 0 where
+pub record AreOfPattern (list : List Expression) (reported : ℕ × Groups) : Type 0 where
   pub re : Expression
-  pub numbered : slice_get list told.0 ≡ Some re
-  pub of_match : AreOfMatch re told.1
+  pub numbered : slice_get list reported.0 ≡ Some re
+  pub of_match : AreOfMatch re reported.1
 
 -- the search returns the match, with the number of its pattern, and these are the spans of that
 -- pattern's groups by index: those of its first groups where it has more than there are spans, and
 -- none after its last one where it has fewer
 abbrev pub TellsLocationsOfList : List Expression → (haystack : List ℕ) → (start : ℕ)
     → List (Option (ℕ × ℕ)) → Option (ℕ × Match) → Type 0
-TellsLocationsOfList list haystack start spans told =
+TellsLocationsOfList list haystack start spans reported =
     TellsAnswerOfList (λ tree found m. IsMatchOf haystack found m
     × (spans ≡ resized (length spans)
     (spans_from (chars haystack) found.marks 0 (captures_len tree))))
-    list haystack start told
+    list haystack start reported
 
 -- the cost of the search is within the bound by the places and arrows of the compiled patterns
 abbrev pub IsWithinListCost : List Expression → (haystack : List ℕ) → (start : ℕ) → Steps → Type 0

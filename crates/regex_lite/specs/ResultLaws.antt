@@ -13,22 +13,22 @@ use Rattle.regex_lite.specs.Searches.{TellsMatch}
 
 -- each search for a pattern shows whether the pattern matches from this offset on
 pub record EachShows (re : Expression) (haystack : List ℕ) (start : ℕ) : Type 0 where
-  pub match : (told : Option Match) → TellsMatch re haystack start told
-      → IsTrue (is_some told) ↔ MatchesFrom re haystack start
-  pub groups : (told : Option Groups) → TellsGroups re haystack start told
-      → IsTrue (is_some told) ↔ MatchesFrom re haystack start
-  pub end : (told : Option ℕ) → TellsEnd re haystack start told
-      → IsTrue (is_some told) ↔ MatchesFrom re haystack start
+  pub match : (reported : Option Match) → TellsMatch re haystack start reported
+      → IsTrue (is_some reported) ↔ MatchesFrom re haystack start
+  pub groups : (reported : Option Groups) → TellsGroups re haystack start reported
+      → IsTrue (is_some reported) ↔ MatchesFrom re haystack start
+  pub end : (reported : Option ℕ) → TellsEnd re haystack start reported
+      → IsTrue (is_some reported) ↔ MatchesFrom re haystack start
   -- a search that writes to locations returns the match
-  pub locations : (spans : List (Option (ℕ × ℕ))) (told : Option Match)
-      → TellsLocations re haystack start spans told → TellsMatch re haystack start told
+  pub locations : (spans : List (Option (ℕ × ℕ))) (reported : Option Match)
+      → TellsLocations re haystack start spans reported → TellsMatch re haystack start reported
 
 abbrev pub EachSearchShows : Type 0
 EachSearchShows =
     (re : Expression) (haystack : List ℕ) (start : ℕ) → EachShows re haystack start
 
 -- the result says for each of several patterns whether it matches from this offset on
-pub record IsToldOfEach (list : List Expression) (haystack : List ℕ) (start : ℕ)
+pub record IsReportedOfEach (list : List Expression) (haystack : List ℕ) (start : ℕ)
     (matched : List Bool) : Type 0 where
   pub all : length matched ≡ length list
   pub each : (number : ℕ) (re : Expression) → slice_get list number ≡ Some re
@@ -37,15 +37,15 @@ pub record IsToldOfEach (list : List Expression) (haystack : List ℕ) (start : 
 -- each search for several patterns shows whether one of them matches from this offset on
 pub record EachShowsOfList (list : List Expression) (haystack : List ℕ) (start : ℕ)
     : Type 0 where
-  pub match : (told : Option (ℕ × Match)) → TellsMatchOfList list haystack start told
-      → IsTrue (is_some told) ↔ AnyMatches list haystack start
-  pub groups : (told : Option (ℕ × Groups)) → TellsGroupsOfList list haystack start told
-      → IsTrue (is_some told) ↔ AnyMatches list haystack start
+  pub match : (reported : Option (ℕ × Match)) → TellsMatchOfList list haystack start reported
+      → IsTrue (is_some reported) ↔ AnyMatches list haystack start
+  pub groups : (reported : Option (ℕ × Groups)) → TellsGroupsOfList list haystack start reported
+      → IsTrue (is_some reported) ↔ AnyMatches list haystack start
   pub which : (matched : List Bool) → TellsWhichMatch list haystack start matched
-      ↔ (HaveTrees list × IsToldOfEach list haystack start matched)
-  pub locations : (spans : List (Option (ℕ × ℕ))) (told : Option (ℕ × Match))
-      → TellsLocationsOfList list haystack start spans told
-      → TellsMatchOfList list haystack start told
+      ↔ (HaveTrees list × IsReportedOfEach list haystack start matched)
+  pub locations : (spans : List (Option (ℕ × ℕ))) (reported : Option (ℕ × Match))
+      → TellsLocationsOfList list haystack start spans reported
+      → TellsMatchOfList list haystack start reported
 
 abbrev pub EachListSearchShows : Type 0
 EachListSearchShows =

@@ -54,50 +54,51 @@ SearchesForList list searcher =
 -- what is returned is the span of what was found, with the number of its pattern, and these are
 -- its slots
 pub record IsSpanWithSlots {A N : Type 0} (found_of : A → Found) (number_of : A → N)
-    (haystack : List ℕ) (slots : List (Option ℕ)) (answer : A) (told : N × (ℕ × ℕ))
+    (haystack : List ℕ) (slots : List (Option ℕ)) (answer : A) (reported : N × (ℕ × ℕ))
     : Type 0 where
-  pub number : told.0 ≡ number_of answer
-  pub span : told.1 ≡ offsets (chars haystack) ((found_of answer).start, (found_of answer).end)
+  pub number : reported.0 ≡ number_of answer
+  pub span : reported.1 ≡ offsets (chars haystack) ((found_of answer).start, (found_of answer).end)
   pub has_slots : HasSlots (chars haystack) slots (found_of answer).marks
 
 -- the span and the slots that a search for a pattern from this offset on returns
 abbrev pub TellsSpan : Expression → (haystack : List ℕ) → (start : ℕ)
     → (slots : List (Option ℕ)) → Option (Unit {0} × (ℕ × ℕ)) → Type 0
-TellsSpan re haystack start slots told =
+TellsSpan re haystack start slots reported =
     TellsOfAnswer (IsAnswerOf re (chars haystack))
-    (IsSpanWithSlots (λ own. own) (λ own. tt {0}) haystack slots) (search_start haystack start) told
+    (IsSpanWithSlots (λ own. own) (λ own. tt {0}) haystack slots) (search_start haystack start)
+    reported
 
 -- the span and the slots that a search for several patterns from this offset on returns
 abbrev pub TellsListSpan : List Expression → (haystack : List ℕ) → (start : ℕ)
     → (slots : List (Option ℕ)) → Option (ℕ × (ℕ × ℕ)) → Type 0
-TellsListSpan list haystack start slots told =
+TellsListSpan list haystack start slots reported =
     TellsOfAnswer (IsAnswerOfPatterns list (chars haystack))
     (IsSpanWithSlots (λ own. own.1) (λ own. own.0) haystack slots) (search_start haystack start)
-    told
+    reported
 
 -- what is returned is the match that was found, with the number of its pattern, and these are its
 -- slots
 pub record IsMatchWithSlots {A N : Type 0} (found_of : A → Found) (number_of : A → N)
-    (haystack : List ℕ) (slots : List (Option ℕ)) (answer : A) (told : N × Match) : Type 0 where
-  pub number : told.0 ≡ number_of answer
-  pub is_match : IsMatchOf haystack (found_of answer) told.1
+    (haystack : List ℕ) (slots : List (Option ℕ)) (answer : A) (reported : N × Match) : Type 0 where
+  pub number : reported.0 ≡ number_of answer
+  pub is_match : IsMatchOf haystack (found_of answer) reported.1
   pub has_slots : HasSlots (chars haystack) slots (found_of answer).marks
 
 -- the match and the slots that a search for several patterns from this offset on returns
 abbrev pub TellsListMatch : List Expression → (haystack : List ℕ) → (start : ℕ)
     → (slots : List (Option ℕ)) → Option (ℕ × Match) → Type 0
-TellsListMatch list haystack start slots told =
+TellsListMatch list haystack start slots reported =
     TellsOfAnswer (IsAnswerOfPatterns list (chars haystack))
     (IsMatchWithSlots (λ own. own.1) (λ own. own.0) haystack slots) (search_start haystack start)
-    told
+    reported
 
 -- what is returned is the answer of some search of the haystack, and these are its slots
 abbrev pub IsMatchOfSearch : {A N : Type 0} → (found_of : A → Found) → (number_of : A → N)
     → (Answers : (s : ℕ) → Option A → Type 0) → (haystack : List ℕ)
     → (slots : List (Option ℕ)) → A → N × Match → Type 0
-IsMatchOfSearch found_of number_of Answers haystack slots answer told =
+IsMatchOfSearch found_of number_of Answers haystack slots answer reported =
     (s : ℕ) × Answers s (Some answer)
-    × IsMatchWithSlots found_of number_of haystack slots answer told
+    × IsMatchWithSlots found_of number_of haystack slots answer reported
 
 -- if the last match was empty, the answer from its end is empty there
 abbrev pub IsAfterAnswer : {A : Type 0} → (found_of : A → Found)
@@ -113,8 +114,8 @@ AreSlotsForGroups re slots = OfTree re (λ tree. slots ≡ kept_slots (captures_
 -- a search for the patterns from this offset on has this result
 abbrev pub TellsOutcomeOfList : List Expression → (haystack : List ℕ) → (start : ℕ)
     → Option (ℕ × Outcome) → Type 0
-TellsOutcomeOfList list haystack start told =
-    OfTrees list (λ trees. IsOutcomeOfList trees haystack start told)
+TellsOutcomeOfList list haystack start reported =
+    OfTrees list (λ trees. IsOutcomeOfList trees haystack start reported)
 
 -- the number of groups of the pattern with the most
 abbrev pub most_captures : List Tree → ℕ

@@ -43,25 +43,25 @@ spans_from haystack marks first (suc count) =
 abbrev pub TellsOf : {A : Type 0} → (says : Found → A → Type 0)
     → Tree → Text → (s : ℕ) → Option A → Type 0
 TellsOf says tree haystack s None = IsAnswer tree haystack s None
-TellsOf says tree haystack s (Some told) =
-    (found : Found) × IsAnswer tree haystack s (Some found) × says found told
+TellsOf says tree haystack s (Some reported) =
+    (found : Found) × IsAnswer tree haystack s (Some found) × says found reported
 
 -- what a search for the pattern from this offset on returns, in the same way
 abbrev pub TellsAnswer : {A : Type 0} → (says : Tree → Found → A → Type 0)
     → Expression → (haystack : List ℕ) → (start : ℕ) → Option A → Type 0
-TellsAnswer says re haystack start told =
+TellsAnswer says re haystack start reported =
     OfTree re (λ tree.
-    TellsOf (says tree) tree (chars haystack) (search_start haystack start) told)
+    TellsOf (says tree) tree (chars haystack) (search_start haystack start) reported)
 
 -- the match is the one that was found in the haystack
-pub record IsMatchOf (bytes : List ℕ) (found : Found) (told : Match) : Type 0 where
-  pub haystack : haystack_of_match told ≡ bytes
-  pub span : span_of_match told ≡ offsets (chars bytes) (found.start, found.end)
+pub record IsMatchOf (bytes : List ℕ) (found : Found) (reported : Match) : Type 0 where
+  pub haystack : haystack_of_match reported ≡ bytes
+  pub span : span_of_match reported ≡ offsets (chars bytes) (found.start, found.end)
 
 -- the search returns the match
 abbrev pub TellsMatch : Expression → (haystack : List ℕ) → (start : ℕ) → Option Match → Type 0
-TellsMatch re haystack start told =
-    TellsAnswer (λ tree. IsMatchOf haystack) re haystack start told
+TellsMatch re haystack start reported =
+    TellsAnswer (λ tree. IsMatchOf haystack) re haystack start reported
 
 -- the groups are those of what was found, each with its span and its name, and as many as the tree
 -- has; group 0 took part
@@ -75,14 +75,14 @@ pub record AreGroupsOf (tree : Tree) (bytes : List ℕ) (found : Found) (groups 
 
 -- the search returns the groups
 abbrev pub TellsGroups : Expression → (haystack : List ℕ) → (start : ℕ) → Option Groups → Type 0
-TellsGroups re haystack start told =
-    TellsAnswer (λ tree. AreGroupsOf tree haystack) re haystack start told
+TellsGroups re haystack start reported =
+    TellsAnswer (λ tree. AreGroupsOf tree haystack) re haystack start reported
 
 -- these are the groups of a match of the pattern
 pub record AreOfMatch (re : Expression) (groups : Groups) : Type 0 where
   pub haystack : List ℕ
   pub start : ℕ
-  pub told : TellsGroups re haystack start (Some groups)
+  pub reported : TellsGroups re haystack start (Some groups)
 
 -- this is the number of groups that are known to take part in each match
 pub record IsStaticNumber (re : Expression) (known : Option ℕ) : Type 0 where
@@ -91,14 +91,14 @@ pub record IsStaticNumber (re : Expression) (known : Option ℕ) : Type 0 where
 -- the search returns the match, and these are the spans of its first groups
 abbrev pub TellsLocations : Expression → (haystack : List ℕ) → (start : ℕ)
     → List (Option (ℕ × ℕ)) → Option Match → Type 0
-TellsLocations re haystack start spans told =
+TellsLocations re haystack start spans reported =
     TellsAnswer (λ tree found m. IsMatchOf haystack found m
     × (spans ≡ spans_from (chars haystack) found.marks 0 (length spans)))
-    re haystack start told
+    re haystack start reported
 
 -- the search returns the end of the match that ends first
 abbrev pub TellsEnd : Expression → (haystack : List ℕ) → (start : ℕ) → Option ℕ → Type 0
-TellsEnd re haystack start told = OfTree re (λ tree. IsEndOutcome tree haystack start told)
+TellsEnd re haystack start reported = OfTree re (λ tree. IsEndOutcome tree haystack start reported)
 
 -- the cost of the search is within the bound by the places and arrows of the compiled pattern
 abbrev pub IsWithinCost : Expression → (haystack : List ℕ) → (start : ℕ) → Steps → Type 0

@@ -18,16 +18,17 @@ pub record IsWholeSpan (re : Expression) (haystack : List ℕ) (span : ℕ × �
 
 -- the searches for a whole match of a pattern
 pub record FindsWhole (re : Expression) (haystack : List ℕ) : Type 0 where
-  pub found : (told : Match) → TellsWholeMatch re haystack (Some told)
-      → (haystack_of_match told ≡ haystack) × IsWholeSpan re haystack (span_of_match told)
+  pub found : (reported : Match) → TellsWholeMatch re haystack (Some reported)
+      → (haystack_of_match reported ≡ haystack) × IsWholeSpan re haystack (span_of_match reported)
   -- nothing is returned exactly if a pattern that has a tree doesn't match the whole haystack
   pub none : TellsWholeMatch re haystack None
       ↔ (HasTree re.flags (chars re.pattern)
       × (MatchesSpan re haystack (0, length haystack) → ⊥))
   -- group 0 is the whole haystack, and each group that took part lies in it
-  pub groups : (told : Groups) → TellsWholeGroups re haystack (Some told)
-      → IsWholeSpan re haystack (whole_span told)
-      × ((index : ℕ) → IfSome (group_span told index) (LiesInside haystack (whole_span told)))
+  pub groups : (reported : Groups) → TellsWholeGroups re haystack (Some reported)
+      → IsWholeSpan re haystack (whole_span reported)
+      × ((index : ℕ) → IfSome (group_span reported index)
+      (LiesInside haystack (whole_span reported)))
   pub no_groups : TellsWholeGroups re haystack None
       ↔ (HasTree re.flags (chars re.pattern)
       × (MatchesSpan re haystack (0, length haystack) → ⊥))
@@ -47,15 +48,15 @@ pub record IsWholeOfList (list : List Expression) (haystack : List ℕ) (number 
 
 -- the searches for a whole match of several patterns
 pub record ListFindsWhole (list : List Expression) (haystack : List ℕ) : Type 0 where
-  pub found : (number : ℕ) (told : Match)
-      → TellsWholeMatchOfList list haystack (Some (number, told))
-      → (haystack_of_match told ≡ haystack)
-      × IsWholeOfList list haystack number (span_of_match told)
+  pub found : (number : ℕ) (reported : Match)
+      → TellsWholeMatchOfList list haystack (Some (number, reported))
+      → (haystack_of_match reported ≡ haystack)
+      × IsWholeOfList list haystack number (span_of_match reported)
   pub none : TellsWholeMatchOfList list haystack None
       ↔ (HaveTrees list × (SomeMatchesWhole list haystack → ⊥))
-  pub groups : (number : ℕ) (told : Groups)
-      → TellsWholeGroupsOfList list haystack (Some (number, told))
-      → IsWholeOfList list haystack number (whole_span told)
+  pub groups : (number : ℕ) (reported : Groups)
+      → TellsWholeGroupsOfList list haystack (Some (number, reported))
+      → IsWholeOfList list haystack number (whole_span reported)
   pub no_groups : TellsWholeGroupsOfList list haystack None
       ↔ (HaveTrees list × (SomeMatchesWhole list haystack → ⊥))
 

@@ -12,8 +12,8 @@ not_refused : (answer : ℕ) → IsOfFound answer → (answer ≡ NOT_TEXT → �
 not_refused answer (inl few) = (λ is. omega (arith, few, is), λ is. omega (arith, few, is))
 not_refused answer (inr (inl memory)) =
     (λ is. omega (arith, memory, is), λ is. omega (arith, memory, is))
-not_refused answer (inr (inr room)) =
-    (λ is. omega (arith, room, is), λ is. omega (arith, room, is))
+not_refused answer (inr (inr buffer)) =
+    (λ is. omega (arith, buffer, is), λ is. omega (arith, buffer, is))
 
 -- and none is due
 pub nothing_refused : (bytes : List ℕ) (start answer : ℕ) → IsUtf8 bytes
@@ -33,11 +33,11 @@ one_of_more answer (inl few) = inl few
 one_of_more answer (inr rest) = inr (inr (inr rest))
 
 -- where there is room it is yes, and else that there is too little
-pub yes_or_no_room : {Written Same : Type 0} (room count answer : ℕ)
-    → (count ≤ room → (answer ≡ YES) × Written) → (room < count → (answer ≡ NO_ROOM) × Same)
+pub yes_or_no_room : {Written Same : Type 0} (buffer count answer : ℕ)
+    → (count ≤ buffer → (answer ≡ YES) × Written) → (buffer < count → (answer ≡ NO_ROOM) × Same)
     → IsOfFound answer × (answer ≡ YES → Written)
-    × (answer ≢ YES → (answer ≡ NO_ROOM) × (room < count) × Same)
-yes_or_no_room room count answer written no_room = elim (cases_lt room count) [
+    × (answer ≢ YES → (answer ≡ NO_ROOM) × (buffer < count) × Same)
+yes_or_no_room buffer count answer written no_room = elim (cases_lt buffer count) [
   | inr within ↦
       let own = written within in
       (inl (omega (arith, own.0)), λ _. own.1, λ wrong. absurd (wrong own.0))
@@ -52,13 +52,13 @@ yes_or_no_room room count answer written no_room = elim (cases_lt room count) [
 -- what a search for groups returns where these are found, of which this is told, and are written if
 -- there is room for them
 pub groups_found : {T : Type 0} (AreFirst : T → Groups → Type 0) (are_none : Type 0)
-    (bytes : List ℕ) (start : ℕ) (old new : List Span) (old_told told : T) (answer : ℕ)
-    (groups : Groups) → IsUtf8 bytes → IsCharBoundary bytes start → AreFirst told groups
+    (bytes : List ℕ) (start : ℕ) (old new : List Span) (old_reported reported : T) (answer : ℕ)
+    (groups : Groups) → IsUtf8 bytes → IsCharBoundary bytes start → AreFirst reported groups
     → (length groups.spans ≤ length old → (answer ≡ YES) × AreWritten groups.spans old new)
     → (length old < length groups.spans → (answer ≡ NO_ROOM) × (new ≡ old))
-    → IsGroupsAnswerOf AreFirst are_none bytes start old new old_told told answer
-groups_found AreFirst are_none bytes start old new old_told told answer groups utf8 boundary are
-    written no_room =
+    → IsGroupsAnswerOf AreFirst are_none bytes start old new old_reported reported answer
+groups_found AreFirst are_none bytes start old new old_reported reported answer groups utf8 boundary
+    are written no_room =
     let own = yes_or_no_room (length old) (length groups.spans) answer written no_room in
     record {
       found = λ yes. (groups, are, own.1 yes);
@@ -66,22 +66,22 @@ groups_found AreFirst are_none bytes start old new old_told told answer groups u
       none = λ no. let full = (own.2 (λ yes. omega (arith, no, yes))).0 in
           absurd (omega (arith, no, full));
       same = λ other. (own.2 other).2;
-      same_told = λ other more. absurd (more (own.2 other).0);
+      same_reported = λ other more. absurd (more (own.2 other).0);
       refused = nothing_refused bytes start answer utf8 boundary own.0;
       one_of = one_of_more answer own.0;
     }
 
 -- and where none are found
 pub no_groups_found : {T : Type 0} (AreFirst : T → Groups → Type 0) (are_none : Type 0)
-    (bytes : List ℕ) (start : ℕ) (spans : List Span) (told : T) → IsUtf8 bytes
+    (bytes : List ℕ) (start : ℕ) (spans : List Span) (reported : T) → IsUtf8 bytes
     → IsCharBoundary bytes start → are_none
-    → IsGroupsAnswerOf AreFirst are_none bytes start spans spans told told NO
-no_groups_found AreFirst are_none bytes start spans told utf8 boundary given = record {
+    → IsGroupsAnswerOf AreFirst are_none bytes start spans spans reported reported NO
+no_groups_found AreFirst are_none bytes start spans reported utf8 boundary given = record {
   found = λ is_yes. absurd (omega (arith, is_yes));
   no_room = λ full. absurd (omega (arith, full));
   none = λ _. given;
   same = λ _. refl;
-  same_told = λ _ _. refl;
+  same_reported = λ _ _. refl;
   refused = nothing_refused bytes start NO utf8 boundary (inl (omega arith));
   one_of = inl (omega arith);
 }

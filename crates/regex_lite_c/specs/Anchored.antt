@@ -19,13 +19,14 @@ IsSpanOf haystack tree found span = span ≡ offsets (chars haystack) (found.sta
 
 -- an anchored search for the pattern at this offset returns the span of its match
 abbrev pub TellsSpanAt : Expression → (haystack : List ℕ) → (start : ℕ) → Option (ℕ × ℕ) → Type 0
-TellsSpanAt re haystack start told =
-    TellsAnswerAt false (IsSpanOf haystack) re haystack start told
+TellsSpanAt re haystack start reported =
+    TellsAnswerAt false (IsSpanOf haystack) re haystack start reported
 
 -- the search finds a match with this span
 abbrev pub FindsSpanAt : Expression → (haystack : List ℕ) → (start : ℕ) → Span → Type 0
 FindsSpanAt re haystack start span =
-    (told : ℕ × ℕ) × TellsSpanAt re haystack start (Some told) × (span ≡ span_of (Some told))
+    (reported : ℕ × ℕ) × TellsSpanAt re haystack start (Some reported)
+    × (span ≡ span_of (Some reported))
 
 -- these are the groups of the match that starts at this offset, `count` of them
 abbrev pub AreGroupsAt : Expression → (haystack : List ℕ) → (start : ℕ) → (count : ℕ) → Groups
@@ -37,20 +38,20 @@ AreGroupsAt re haystack start count groups =
 -- there, and the span of its match
 abbrev pub TellsListSpanAt : List Expression → (haystack : List ℕ) → (start : ℕ)
     → Option (ℕ × (ℕ × ℕ)) → Type 0
-TellsListSpanAt list haystack start told =
-    TellsAnswerAtOfList false (IsSpanOf haystack) list haystack start told
+TellsListSpanAt list haystack start reported =
+    TellsAnswerAtOfList false (IsSpanOf haystack) list haystack start reported
 
 -- the search finds a match with this span and this number of its pattern
 abbrev pub FindsListSpanAt : List Expression → (haystack : List ℕ) → (start : ℕ) → ListSpan
     → Type 0
 FindsListSpanAt list haystack start span =
-    (told : ℕ × (ℕ × ℕ)) × TellsListSpanAt list haystack start (Some told)
-    × (span ≡ list_span_of told)
+    (reported : ℕ × (ℕ × ℕ)) × TellsListSpanAt list haystack start (Some reported)
+    × (span ≡ list_span_of reported)
 
 -- these are the groups of the match that starts at this offset; their count and the number of their
 -- pattern are returned
 abbrev pub AreListGroupsAt : List Expression → (haystack : List ℕ) → (start : ℕ) → ListGroups
     → Groups → Type 0
-AreListGroupsAt list haystack start told groups =
-    TellsGroupsAtOfList list haystack start (Some (told.number, groups))
-    × (told.count ≡ length groups.spans)
+AreListGroupsAt list haystack start reported groups =
+    TellsGroupsAtOfList list haystack start (Some (reported.number, groups))
+    × (reported.count ≡ length groups.spans)

@@ -4,7 +4,7 @@ use Rattle.regex_lite_syntax.specs.Errors.{Refusal, kind_of, text_of}
 use Rattle.regex_lite.specs.Expression.{Expression, IsAccepted, IsDue, expression_of}
 use Rattle.regex_lite.specs.Settings.{Settings}
 use Rattle.regex_lite_c.specs.Answers.{number_of}
-use Rattle.regex_lite_c.specs.Rooms.{IsWritten}
+use Rattle.regex_lite_c.specs.Buffers.{IsWritten}
 use Rattle.regex_lite_c.specs.declared.answer.TheConstants.{YES, NOT_TEXT, OUT_OF_MEMORY}
 
 -- a message was written to the room for it, if that is large enough, and its length was reported

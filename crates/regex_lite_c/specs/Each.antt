@@ -16,18 +16,18 @@ AreTextLengths bytes at (len ∷ lens) =
 
 -- the spans of the first match in each of these texts
 abbrev pub AreFirstOfEach : Expression → (bytes : List ℕ) → (at : ℕ) → (lens : List ℕ)
-    → (told : List (Option (ℕ × ℕ))) → Type 0
-AreFirstOfEach re bytes at [] told = told ≡ []
+    → (reported : List (Option (ℕ × ℕ))) → Type 0
+AreFirstOfEach re bytes at [] reported = reported ≡ []
 AreFirstOfEach re bytes at (len ∷ lens) [] = ⊥
-AreFirstOfEach re bytes at (len ∷ lens) (one ∷ told) =
+AreFirstOfEach re bytes at (len ∷ lens) (one ∷ reported) =
     TellsSpan re (slice_range bytes at (at + len)) 0 one
-    × AreFirstOfEach re bytes (at + len) lens told
+    × AreFirstOfEach re bytes (at + len) lens reported
 
 -- these spans were written to the front of the room
 abbrev pub AreFoundEach : Expression → (bytes lens : List ℕ) → (old new : List Span) → Type 0
 AreFoundEach re bytes lens old new =
-    (told : List (Option (ℕ × ℕ))) × AreFirstOfEach re bytes 0 lens told
-    × AreWritten told old new
+    (reported : List (Option (ℕ × ℕ))) × AreFirstOfEach re bytes 0 lens reported
+    × AreWritten reported old new
 
 -- the answer when many texts are searched
 pub record IsEachAnswer (re : Expression) (bytes lens : List ℕ) (old new : List Span)

@@ -16,17 +16,17 @@ use Rattle.regex_lite_c.specs.declared.list.types.ListGroups.{ListGroups}
 use Rattle.regex_lite_c.specs.declared.types.Span.{Span}
 
 -- what a search of these bytes at this offset returns for the groups of a match: 1 if groups were
--- written, with `told` besides their spans, and 0 if there are none
+-- written, with `reported` besides their spans, and 0 if there are none
 pub record IsGroupsAnswerOf {T : Type 0} (AreFirst : T → Groups → Type 0) (are_none : Type 0)
-    (bytes : List ℕ) (start : ℕ) (old new : List Span) (old_told told : T) (answer : ℕ)
+    (bytes : List ℕ) (start : ℕ) (old new : List Span) (old_reported reported : T) (answer : ℕ)
     : Type 0 where
-  pub found : answer ≡ YES → (groups : Groups) × AreFirst told groups
+  pub found : answer ≡ YES → (groups : Groups) × AreFirst reported groups
       × AreWritten groups.spans old new
-  pub no_room : answer ≡ NO_ROOM → (groups : Groups) × AreFirst told groups
+  pub no_room : answer ≡ NO_ROOM → (groups : Groups) × AreFirst reported groups
       × (length old < length groups.spans)
   pub none : answer ≡ NO → are_none
   pub same : answer ≢ YES → new ≡ old
-  pub same_told : answer ≢ YES → answer ≢ NO_ROOM → told ≡ old_told
+  pub same_reported : answer ≢ YES → answer ≢ NO_ROOM → reported ≡ old_reported
   pub refused : RefusesText bytes start answer
   pub one_of : (answer ≤ YES) ⊎ IsFailure answer
 
@@ -39,10 +39,10 @@ IsGroupsAnswer re bytes start old new old_count count answer =
 
 -- the groups of the first match of several patterns, with the number of the pattern too
 abbrev pub IsListGroupsAnswer : List Expression → (bytes : List ℕ) → (start : ℕ)
-    → (old new : List Span) → (old_told told : ListGroups) → (answer : ℕ) → Type 0
-IsListGroupsAnswer list bytes start old new old_told told answer =
+    → (old new : List Span) → (old_reported reported : ListGroups) → (answer : ℕ) → Type 0
+IsListGroupsAnswer list bytes start old new old_reported reported answer =
     IsGroupsAnswerOf (AreFirstListGroups list bytes start)
-    (TellsGroupsOfList list bytes start None) bytes start old new old_told told answer
+    (TellsGroupsOfList list bytes start None) bytes start old new old_reported reported answer
 
 -- the groups of the match of a regex that starts at the offset
 abbrev pub IsAnchoredGroupsAnswer : Expression → (bytes : List ℕ) → (start : ℕ)
@@ -53,10 +53,10 @@ IsAnchoredGroupsAnswer re bytes start old new old_count count answer =
 
 -- the groups of the match of several patterns that starts at the offset
 abbrev pub IsAnchoredListGroupsAnswer : List Expression → (bytes : List ℕ) → (start : ℕ)
-    → (old new : List Span) → (old_told told : ListGroups) → (answer : ℕ) → Type 0
-IsAnchoredListGroupsAnswer list bytes start old new old_told told answer =
+    → (old new : List Span) → (old_reported reported : ListGroups) → (answer : ℕ) → Type 0
+IsAnchoredListGroupsAnswer list bytes start old new old_reported reported answer =
     IsGroupsAnswerOf (AreListGroupsAt list bytes start)
-    (TellsGroupsAtOfList list bytes start None) bytes start old new old_told told answer
+    (TellsGroupsAtOfList list bytes start None) bytes start old new old_reported reported answer
 
 -- the groups of the match of a regex that is the whole text
 abbrev pub IsWholeGroupsAnswer : Expression → (bytes : List ℕ) → (old new : List Span)
@@ -67,7 +67,7 @@ IsWholeGroupsAnswer re bytes old new old_count count answer =
 
 -- the groups of the match of several patterns that is the whole text
 abbrev pub IsWholeListGroupsAnswer : List Expression → (bytes : List ℕ) → (old new : List Span)
-    → (old_told told : ListGroups) → (answer : ℕ) → Type 0
-IsWholeListGroupsAnswer list bytes old new old_told told answer =
+    → (old_reported reported : ListGroups) → (answer : ℕ) → Type 0
+IsWholeListGroupsAnswer list bytes old new old_reported reported answer =
     IsGroupsAnswerOf (AreWholeListGroups list bytes) (TellsWholeGroupsOfList list bytes None)
-    bytes 0 old new old_told told answer
+    bytes 0 old new old_reported reported answer

@@ -23,55 +23,55 @@ use Rattle.regex_lite_c.specs.declared.types.Span.{Span}
 -- written of the groups of a match, and a walk over all matches may write it for each
 pub record Kind (S X T : Type 0) : Type 1 where
   pub Answer : Type 0
-  pub Told : Type 0
+  pub Reported : Type 0
   pub found_of : Answer → Found
   pub IsAnswerTo : S → Text → (s : ℕ) → Option Answer → Type 0
-  pub tell : (haystack : List ℕ) → Answer → Told
-  pub stands_for : Told → X
+  pub tell : (haystack : List ℕ) → Answer → Reported
+  pub stands_for : Reported → X
   pub end_of : X → ℕ
   pub IsCost : S → (haystack : List ℕ) → (start : ℕ) → Cost → Type 0
   pub AreGroups : S → (haystack : List ℕ) → Answer → Groups → Type 0
-  pub groups_told : Answer → (count : ℕ) → T
-  pub is_told : Bool
+  pub groups_reported : Answer → (count : ℕ) → T
+  pub is_reported : Bool
 
 -- the span of a match, as it is written
-abbrev pub told_of : (haystack : List ℕ) → Found → Option (ℕ × ℕ)
-told_of haystack found = Some (found_span (chars haystack) found)
+abbrev pub reported_of : (haystack : List ℕ) → Found → Option (ℕ × ℕ)
+reported_of haystack found = Some (found_span (chars haystack) found)
 
 -- a regex as what is searched for; the answers are its matches
 abbrev pub of_regex : Kind Expression Span ℕ
 of_regex = record {
   Answer = Found;
-  Told = Option (ℕ × ℕ);
+  Reported = Option (ℕ × ℕ);
   found_of = λ own. own;
   IsAnswerTo = IsAnswerOf;
-  tell = told_of;
+  tell = reported_of;
   stands_for = span_of;
   end_of = λ span. span.end;
   IsCost = IsCostOfSearch;
   AreGroups = AreGroupsFound;
-  groups_told = λ _ count. count;
-  is_told = false;
+  groups_reported = λ _ count. count;
+  is_reported = false;
 }
 
 -- the number of a pattern and the span of its match, as they are written
-abbrev pub told_of_answer : (haystack : List ℕ) → ℕ × Found → ℕ × (ℕ × ℕ)
-told_of_answer haystack answer = (answer.0, found_span (chars haystack) answer.1)
+abbrev pub reported_of_answer : (haystack : List ℕ) → ℕ × Found → ℕ × (ℕ × ℕ)
+reported_of_answer haystack answer = (answer.0, found_span (chars haystack) answer.1)
 
 -- several patterns as what is searched for; each answer has the number of its pattern
 abbrev pub of_patterns : Kind (List Expression) ListSpan ListGroups
 of_patterns = record {
   Answer = ℕ × Found;
-  Told = ℕ × (ℕ × ℕ);
+  Reported = ℕ × (ℕ × ℕ);
   found_of = λ own. own.1;
   IsAnswerTo = IsAnswerOfPatterns;
-  tell = told_of_answer;
+  tell = reported_of_answer;
   stands_for = list_span_of;
   end_of = λ span. span.end;
   IsCost = IsCostOfListSearch;
   AreGroups = λ list haystack answer. AreGroupsFoundInList list haystack answer.0 answer.1;
-  groups_told = λ answer count. record { number = answer.0; count = count };
-  is_told = true;
+  groups_reported = λ answer count. record { number = answer.0; count = count };
+  is_reported = true;
 }
 
 module _ {S X T : Type 0} (kind : Kind S X T) where
@@ -90,5 +90,5 @@ module _ {S X T : Type 0} (kind : Kind S X T) where
   GivesGroups old item new =
       MatchOption item (EndsAhead kind.found_of kind.IsAnswerTo old new)
       (λ own. (answer : kind.Answer) × kind.AreGroups old.sought old.haystack answer own.1
-      × (own.0 ≡ kind.groups_told answer (length own.1.spans)) × IsSome (group_span own.1 0)
+      × (own.0 ≡ kind.groups_reported answer (length own.1.spans)) × IsSome (group_span own.1 0)
       × PassesAnswer kind.found_of kind.IsAnswerTo old answer new)

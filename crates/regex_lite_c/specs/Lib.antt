@@ -15,7 +15,7 @@ pub mod Kinds
 pub mod Anchored
 pub mod Whole
 pub mod SearchKinds
-pub mod Rooms
+pub mod Buffers
 pub mod Costs
 pub mod Names
 pub mod Replacing

@@ -69,24 +69,24 @@ IsRefusedAs all (refused.By number error) =
 
 -- the number of the reason why patterns are rejected is returned, and the number of the pattern and
 -- the message are written
-abbrev pub IsTold : Refused → (answer : ℕ) → ListRefusal → (old new : List ℕ) → Type 0
-IsTold (refused.NotText number) answer told old new =
-    (answer ≡ NOT_TEXT) × (told.number ≡ number) × (told.message_len ≡ 0) × (new ≡ old)
-IsTold (refused.By number error) answer told old new =
-    (answer ≡ number_of (kind_of error)) × (told.number ≡ number)
-    × IsMessage (text_of error) old new told.message_len
+abbrev pub IsReported : Refused → (answer : ℕ) → ListRefusal → (old new : List ℕ) → Type 0
+IsReported (refused.NotText number) answer reported old new =
+    (answer ≡ NOT_TEXT) × (reported.number ≡ number) × (reported.message_len ≡ 0) × (new ≡ old)
+IsReported (refused.By number error) answer reported old new =
+    (answer ≡ number_of (kind_of error)) × (reported.number ≡ number)
+    × IsMessage (text_of error) old new reported.message_len
 
 -- the patterns are rejected with this number, and with the text of a refusal that is due
 abbrev pub IsListRefusedBy : List Settings → (answer : ℕ) → ListRefusal → (old new : List ℕ)
     → Type 0
-IsListRefusedBy all answer told old new =
-    (error : Refusal) × IsDueAt all told.number error × (answer ≡ number_of (kind_of error))
-    × IsMessage (text_of error) old new told.message_len
+IsListRefusedBy all answer reported old new =
+    (error : Refusal) × IsDueAt all reported.number error × (answer ≡ number_of (kind_of error))
+    × IsMessage (text_of error) old new reported.message_len
 
 -- the answer when a list of these patterns is built, each under its own options; what is held and
 -- written then, and the room for a message before and after
 pub record IsListBuildAnswer (bytes : List ℕ) (patterns : List ListPattern) (answer : ℕ)
-    (held : Option (List Expression)) (told : ListRefusal) (old new : List ℕ) : Type 0 where
+    (held : Option (List Expression)) (reported : ListRefusal) (old new : List ℕ) : Type 0 where
   pub built : answer ≡ YES → held ≡ Some (map expression_of (settings_of_all bytes patterns))
   pub accepted : answer ≡ YES → AreAccepted (settings_of_all bytes patterns)
   pub nothing : answer ≢ YES → held ≡ None
@@ -94,15 +94,15 @@ pub record IsListBuildAnswer (bytes : List ℕ) (patterns : List ListPattern) (a
   pub bad_offset : (answer ≡ BAD_OFFSET) ↔ (AreAllBytes patterns bytes → ⊥)
   -- one of the patterns isn't valid UTF-8
   pub not_text : answer ≡ NOT_TEXT
-      → IsFirstOtherBytes (settings_of_all bytes patterns) told.number
+      → IsFirstOtherBytes (settings_of_all bytes patterns) reported.number
   pub texts : (answer ≡ BAD_OFFSET) ⊎ ((answer ≡ NOT_TEXT) ⊎ ((answer ≡ OUT_OF_MEMORY)
       ⊎ AreTexts (settings_of_all bytes patterns)))
   pub refused : answer ≢ YES → answer ≢ BAD_OFFSET → answer ≢ NOT_TEXT
-      → IsListRefusedBy (settings_of_all bytes patterns) answer told old new
+      → IsListRefusedBy (settings_of_all bytes patterns) answer reported old new
   -- if the patterns are accepted, the only error is that memory ran out
   pub complete : answer ≢ YES → AreAllBytes patterns bytes
       → AreTexts (settings_of_all bytes patterns) → AreAccepted (settings_of_all bytes patterns)
       → answer ≡ OUT_OF_MEMORY
   pub no_message : (answer ≡ YES) ⊎ ((answer ≡ BAD_OFFSET) ⊎ (answer ≡ NOT_TEXT))
-      → (told.message_len ≡ 0) × (new ≡ old)
-  pub no_number : (answer ≡ YES) ⊎ (answer ≡ BAD_OFFSET) → told.number ≡ length patterns
+      → (reported.message_len ≡ 0) × (new ≡ old)
+  pub no_number : (answer ≡ YES) ⊎ (answer ≡ BAD_OFFSET) → reported.number ≡ length patterns

@@ -78,19 +78,19 @@ AreThisMany settings count own = AreParts settings own × (count ≡ length own)
 -- the answer for the outline of a pattern, which may be any bytes, under these settings; the room
 -- for the parts and that for a message before and after, and what is written
 pub record IsOutlineAnswer (settings : Settings) (answer : ℕ) (old_parts parts : List WrittenPart)
-    (old new : List ℕ) (told : Outlined) : Type 0 where
-  pub written : answer ≡ YES → (own : List Part) × AreThisMany settings told.count own
+    (old new : List ℕ) (reported : Outlined) : Type 0 where
+  pub written : answer ≡ YES → (own : List Part) × AreThisMany settings reported.count own
       × AreWrittenAs written_part own old_parts parts
-  pub no_room : answer ≡ NO_ROOM → (own : List Part) × AreThisMany settings told.count own
-      × (length old_parts < told.count)
+  pub no_room : answer ≡ NO_ROOM → (own : List Part) × AreThisMany settings reported.count own
+      × (length old_parts < reported.count)
   pub same : answer ≢ YES → parts ≡ old_parts
   pub not_text : (answer ≡ NOT_TEXT) ↔ (IsUtf8 settings.pattern → ⊥)
   pub refused : answer ≢ YES → answer ≢ NO_ROOM → IsUtf8 settings.pattern
-      → IsRefusedFor (IsDueOnReading settings) answer old new told.message_len
+      → IsRefusedFor (IsDueOnReading settings) answer old new reported.message_len
   -- if the pattern has a tree and exceeds neither limit on reading it, the only error is that
   -- memory ran out
   pub complete : answer ≢ YES → answer ≢ NO_ROOM → IsUtf8 settings.pattern → IsReadable settings
       → answer ≡ OUT_OF_MEMORY
-  pub none_told : answer ≢ YES → answer ≢ NO_ROOM → told.count ≡ 0
+  pub none_reported : answer ≢ YES → answer ≢ NO_ROOM → reported.count ≡ 0
   pub no_message : (IsUtf8 settings.pattern → (answer ≡ YES) ⊎ (answer ≡ NO_ROOM))
-      → (told.message_len ≡ 0) × (new ≡ old)
+      → (reported.message_len ≡ 0) × (new ≡ old)

@@ -5,7 +5,7 @@ use Rattle.regex_lite.specs.Ahead.{Ahead, AreSoManyAhead, whole}
 use Rattle.regex_lite.specs.Expression.{Expression}
 use Rattle.regex_lite.specs.Replacements.{IsReplacedBy, IsReplacement, limit_of}
 use Rattle.regex_lite.specs.Replacing.{IsAppendedTemplate, IsFixedText}
-use Rattle.regex_lite_c.specs.Rooms.{IsWritten}
+use Rattle.regex_lite_c.specs.Buffers.{IsWritten}
 use Rattle.regex_lite_c.specs.declared.answer.TheConstants.{NOT_TEXT, OUT_OF_MEMORY}
 use Rattle.regex_lite_c.specs.declared.types.Replacing.{Replacing}
 

@@ -68,8 +68,8 @@ anchored_patterns_search = record {
   Matches = λ own haystack start. SomeMatchesAt own.sought.now haystack start;
   Finds = λ own haystack start span. FindsListSpanAt own.sought.now haystack start span;
   FindsNone = λ own haystack start. TellsListSpanAt own.sought.now haystack start None;
-  AreFirst = λ own haystack start told groups.
-      AreListGroupsAt own.sought.now haystack start told groups;
+  AreFirst = λ own haystack start reported groups.
+      AreListGroupsAt own.sought.now haystack start reported groups;
   AreNone = λ own haystack start. TellsGroupsAtOfList own.sought.now haystack start None;
 }
 
@@ -90,8 +90,8 @@ whole_patterns_search = record {
   Matches = λ own haystack start. SomeMatchesWhole own.sought.now haystack;
   Finds = λ own haystack start span. FindsWholeListSpan own.sought.now haystack span;
   FindsNone = λ own haystack start. TellsWholeListSpan own.sought.now haystack None;
-  AreFirst = λ own haystack start told groups.
-      AreWholeListGroups own.sought.now haystack told groups;
+  AreFirst = λ own haystack start reported groups.
+      AreWholeListGroups own.sought.now haystack reported groups;
   AreNone = λ own haystack start. TellsWholeGroupsOfList own.sought.now haystack None;
 }
 
@@ -117,7 +117,7 @@ module _ {S X T : Type 0} (kind : SearchKind S X T) where
       MatchOption span (kind.FindsNone sought haystack start) (kind.Finds sought haystack start)
 
   -- the search from this offset finds these groups, with what is written of them, or none
-  abbrev pub AreFirstTold : S → (haystack : List ℕ) → (start : ℕ) → Option (T × Groups) → Type 0
-  AreFirstTold sought haystack start own =
+  abbrev pub AreFirstReported : S → (haystack : List ℕ) → (start : ℕ) → Option (T × Groups) → Type 0
+  AreFirstReported sought haystack start own =
       MatchOption own (kind.AreNone sought haystack start)
       (λ own. kind.AreFirst sought haystack start own.0 own.1)

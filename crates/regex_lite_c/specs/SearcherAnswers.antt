@@ -31,9 +31,10 @@ pub record IsReadAnswer (own : TextSearch) (bytes : List ℕ) (new : Option Text
 -- a search for the pattern from this offset on returns the spans of all groups of its match
 abbrev pub TellsSpans : Expression → (haystack : List ℕ) → (start : ℕ)
     → Option (List (Option (ℕ × ℕ))) → Type 0
-TellsSpans re haystack start told =
+TellsSpans re haystack start reported =
     TellsAnswer (λ tree found spans.
-    spans ≡ spans_from (chars haystack) found.marks 0 (captures_len tree)) re haystack start told
+    spans ≡ spans_from (chars haystack) found.marks 0 (captures_len tree)) re haystack start
+    reported
 
 -- these are the spans of the groups of the match that starts first from this offset on, `count` of
 -- them; their names aren't returned
@@ -52,9 +53,10 @@ IsSpansAnswer own start old new old_count count answer =
 -- an anchored search for the pattern at this offset returns the spans of all groups of its match
 abbrev pub TellsSpansAt : Expression → (haystack : List ℕ) → (start : ℕ)
     → Option (List (Option (ℕ × ℕ))) → Type 0
-TellsSpansAt re haystack start told =
+TellsSpansAt re haystack start reported =
     TellsAnswerAt false (λ tree found spans.
-    spans ≡ spans_from (chars haystack) found.marks 0 (captures_len tree)) re haystack start told
+    spans ≡ spans_from (chars haystack) found.marks 0 (captures_len tree)) re haystack start
+    reported
 
 abbrev pub AreSpansAt : Expression → (haystack : List ℕ) → (start : ℕ) → (count : ℕ) → Groups
     → Type 0

@@ -13,33 +13,34 @@ span_of (Some part) = record { is_there = true; start = part.0; end = part.1 }
 
 -- a search for the pattern from this offset on returns the span of its match
 abbrev pub TellsSpan : Expression → (haystack : List ℕ) → (start : ℕ) → Option (ℕ × ℕ) → Type 0
-TellsSpan re haystack start told =
+TellsSpan re haystack start reported =
     TellsAnswer (λ tree found span. span ≡ offsets (chars haystack) (found.start, found.end))
-    re haystack start told
+    re haystack start reported
 
 -- the search finds a match with this span
 abbrev pub FindsSpan : Expression → (haystack : List ℕ) → (start : ℕ) → Span → Type 0
 FindsSpan re haystack start span =
-    (told : ℕ × ℕ) × TellsSpan re haystack start (Some told) × (span ≡ span_of (Some told))
+    (reported : ℕ × ℕ) × TellsSpan re haystack start (Some reported)
+    × (span ≡ span_of (Some reported))
 
 -- these values were written to the front of the room, each as what stands for it, and nothing after
 -- them
-pub record AreWrittenAs {X Y : Type 0} (stands_for : Y → X) (told : List Y) (old new : List X)
+pub record AreWrittenAs {X Y : Type 0} (stands_for : Y → X) (reported : List Y) (old new : List X)
     : Type 0 where
-  pub each : (k : ℕ) → k < length told
-      → slice_get new k ≡ option_map stands_for (slice_get told k)
-  pub rest : (k : ℕ) → length told ≤ k → slice_get new k ≡ slice_get old k
+  pub each : (k : ℕ) → k < length reported
+      → slice_get new k ≡ option_map stands_for (slice_get reported k)
+  pub rest : (k : ℕ) → length reported ≤ k → slice_get new k ≡ slice_get old k
 
 -- these spans were written to the front of the room, and nothing after them
-abbrev pub AreWritten : (told : List (Option (ℕ × ℕ))) → (old new : List Span) → Type 0
-AreWritten told old new = AreWrittenAs span_of told old new
+abbrev pub AreWritten : (reported : List (Option (ℕ × ℕ))) → (old new : List Span) → Type 0
+AreWritten reported old new = AreWrittenAs span_of reported old new
 
 -- these spans were written from this index on, and nothing before and after them
-pub record AreWrittenAt (at : ℕ) (told : List (Option (ℕ × ℕ))) (old new : List Span)
+pub record AreWrittenAt (at : ℕ) (reported : List (Option (ℕ × ℕ))) (old new : List Span)
     : Type 0 where
-  pub each : (k : ℕ) → k < length told
-      → slice_get new (at + k) ≡ option_map span_of (slice_get told k)
-  pub rest : (k : ℕ) → (k < at) ⊎ (at + length told ≤ k) → slice_get new k ≡ slice_get old k
+  pub each : (k : ℕ) → k < length reported
+      → slice_get new (at + k) ≡ option_map span_of (slice_get reported k)
+  pub rest : (k : ℕ) → (k < at) ⊎ (at + length reported ≤ k) → slice_get new k ≡ slice_get old k
 
 -- these are the groups of the match that starts first from this offset on, `count` of them
 abbrev pub AreFirstGroups : Expression → (haystack : List ℕ) → (start : ℕ) → (count : ℕ) → Groups

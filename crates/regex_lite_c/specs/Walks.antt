@@ -17,12 +17,12 @@ abbrev pub ended_of : MatchWalk → Option ℕ
 ended_of walk = cond walk.is_begun (Some walk.end) None
 
 -- what a walk writes to: its position, and the caller's room
-pub record WalkRoom (X : Type 0) : Type 0 where
+pub record WalkBuffer (X : Type 0) : Type 0 where
   pub walk : MatchWalk
-  pub room : List X
+  pub buffer : List X
 
-abbrev pub walk_room : {X : Type 0} → MatchWalk → List X → WalkRoom X
-walk_room walk room = record { walk = walk; room = room }
+abbrev pub walk_buffer : {X : Type 0} → MatchWalk → List X → WalkBuffer X
+walk_buffer walk buffer = record { walk = walk; buffer = buffer }
 
 -- these are the first of the matches ahead, as many as there is room for, or all if they are fewer,
 -- and they were written to the front of the room
@@ -46,24 +46,24 @@ pub record GoesOnAfterLast {X : Type 0} (end_of : X → ℕ) (written : List X) 
 
 -- the answer when a walk over the matches in this text continues
 pub record IsWalkAnswerOf {S X T : Type 0} (kind : Kind S X T) (sought : S) (bytes : List ℕ)
-    (old new : WalkRoom X) (count answer : ℕ) : Type 0 where
+    (old new : WalkBuffer X) (count answer : ℕ) : Type 0 where
   pub found : answer ≡ YES
-      → AreListed kind (after sought bytes (ended_of old.walk)) old.room new.room count
-      × GoesOnAfterLast kind.end_of new.room count new.walk
+      → AreListed kind (after sought bytes (ended_of old.walk)) old.buffer new.buffer count
+      × GoesOnAfterLast kind.end_of new.buffer count new.walk
   pub none : answer ≡ NO → NoneComes kind (after sought bytes (ended_of old.walk))
-  pub same : answer ≢ YES → (new.walk ≡ old.walk) × (new.room ≡ old.room) × (count ≡ 0)
-  pub no_room : answer ≡ NO_ROOM → length old.room ≡ 0
+  pub same : answer ≢ YES → (new.walk ≡ old.walk) × (new.buffer ≡ old.buffer) × (count ≡ 0)
+  pub no_room : answer ≡ NO_ROOM → length old.buffer ≡ 0
   pub refused : RefusesText bytes (unwrap_or (ended_of old.walk) 0) answer
   pub one_of : (answer ≤ YES) ⊎ IsFailure answer
 
 -- the answer for a walk over the matches of a regex
-abbrev pub IsWalkAnswer : Expression → (bytes : List ℕ) → (old new : WalkRoom Span)
+abbrev pub IsWalkAnswer : Expression → (bytes : List ℕ) → (old new : WalkBuffer Span)
     → (count answer : ℕ) → Type 0
 IsWalkAnswer re bytes old new count answer =
     IsWalkAnswerOf of_regex re bytes old new count answer
 
 -- the answer for a walk over the matches of several patterns
-abbrev pub IsListWalkAnswer : List Expression → (bytes : List ℕ) → (old new : WalkRoom ListSpan)
+abbrev pub IsListWalkAnswer : List Expression → (bytes : List ℕ) → (old new : WalkBuffer ListSpan)
     → (count answer : ℕ) → Type 0
 IsListWalkAnswer list bytes old new count answer =
     IsWalkAnswerOf of_patterns list bytes old new count answer

@@ -13,12 +13,13 @@ use Rattle.regex_lite_c.specs.declared.types.Span.{Span}
 
 -- a search for a match of the whole haystack returns its span
 abbrev pub TellsWholeSpan : Expression → (haystack : List ℕ) → Option (ℕ × ℕ) → Type 0
-TellsWholeSpan re haystack told = TellsAnswerAt true (IsSpanOf haystack) re haystack 0 told
+TellsWholeSpan re haystack reported = TellsAnswerAt true (IsSpanOf haystack) re haystack 0 reported
 
 -- the search finds a match with this span
 abbrev pub FindsWholeSpan : Expression → (haystack : List ℕ) → Span → Type 0
 FindsWholeSpan re haystack span =
-    (told : ℕ × ℕ) × TellsWholeSpan re haystack (Some told) × (span ≡ span_of (Some told))
+    (reported : ℕ × ℕ) × TellsWholeSpan re haystack (Some reported)
+    × (span ≡ span_of (Some reported))
 
 -- these are the groups of the match of the whole haystack, `count` of them
 abbrev pub AreWholeGroups : Expression → (haystack : List ℕ) → (count : ℕ) → Groups → Type 0
@@ -29,19 +30,19 @@ AreWholeGroups re haystack count groups =
 -- its span
 abbrev pub TellsWholeListSpan : List Expression → (haystack : List ℕ) → Option (ℕ × (ℕ × ℕ))
     → Type 0
-TellsWholeListSpan list haystack told =
-    TellsAnswerAtOfList true (IsSpanOf haystack) list haystack 0 told
+TellsWholeListSpan list haystack reported =
+    TellsAnswerAtOfList true (IsSpanOf haystack) list haystack 0 reported
 
 -- the search finds a match with this span and this number of its pattern
 abbrev pub FindsWholeListSpan : List Expression → (haystack : List ℕ) → ListSpan → Type 0
 FindsWholeListSpan list haystack span =
-    (told : ℕ × (ℕ × ℕ)) × TellsWholeListSpan list haystack (Some told)
-    × (span ≡ list_span_of told)
+    (reported : ℕ × (ℕ × ℕ)) × TellsWholeListSpan list haystack (Some reported)
+    × (span ≡ list_span_of reported)
 
 -- these are the groups of the match of the whole haystack; their count and the number of their
 -- pattern are returned
 abbrev pub AreWholeListGroups : List Expression → (haystack : List ℕ) → ListGroups → Groups
     → Type 0
-AreWholeListGroups list haystack told groups =
-    TellsWholeGroupsOfList list haystack (Some (told.number, groups))
-    × (told.count ≡ length groups.spans)
+AreWholeListGroups list haystack reported groups =
+    TellsWholeGroupsOfList list haystack (Some (reported.number, groups))
+    × (reported.count ≡ length groups.spans)

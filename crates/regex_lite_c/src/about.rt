@@ -1,26 +1,26 @@
 //! The version of the library, and the texts of its answers.
 ghost use Rattle.std.specs.Prelude.{◌≡◌};
 ghost use Rattle.regex_lite_c.specs.AnswerTexts.{answer_text};
-ghost use Rattle.regex_lite_c.specs.Rooms.{IsWritten};
+ghost use Rattle.regex_lite_c.specs.Buffers.{IsWritten};
 ghost use Rattle.regex_lite_c.specs.declared.version.TheConstants.{VERSION};
 
 use crate::answer::text_of_answer;
-use crate::room;
+use crate::buffer;
 use crate::version::VERSION;
 
 /// Writes the version of the library to the room: 1. Its length is written either way.
 #[unsafe(no_mangle)]
-pub extern "C" fn regex_lite_version(room: &mut [u8], len: &mut usize) -> u32
-    ensures { IsWritten VERSION.now room.old room.new len.new result }
+pub extern "C" fn regex_lite_version(buffer: &mut [u8], len: &mut usize) -> u32
+    ensures { IsWritten VERSION.now buffer.old buffer.new len.new result }
 {
-    room::write(VERSION.as_bytes(), room, len)
+    buffer::write(VERSION.as_bytes(), buffer, len)
 }
 
 /// Writes the text of an answer to the room: 1. A number that isn't an answer has a text too. The
 /// text's length is written either way.
 #[unsafe(no_mangle)]
-pub extern "C" fn regex_lite_strerror(answer: u32, room: &mut [u8], len: &mut usize) -> u32
-    ensures { IsWritten (answer_text answer) room.old room.new len.new result }
+pub extern "C" fn regex_lite_strerror(answer: u32, buffer: &mut [u8], len: &mut usize) -> u32
+    ensures { IsWritten (answer_text answer) buffer.old buffer.new len.new result }
 {
-    room::write(text_of_answer(answer).as_bytes(), room, len)
+    buffer::write(text_of_answer(answer).as_bytes(), buffer, len)
 }

@@ -26,7 +26,7 @@ impl<'r> Search for Anchored<'r, Regex> {
 
     type Span = Span;
 
-    type Told = usize;
+    type Reported = usize;
 
     ghost search = { anchored_regex_search };
 

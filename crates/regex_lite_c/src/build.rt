@@ -6,8 +6,8 @@ ghost use Rattle.regex_lite_c.specs.Building.{IsBuildAnswer, IsMessage};
 ghost use Rattle.regex_lite_c.specs.Options.{flags_of, settings_of};
 
 use crate::answer::{NOT_TEXT, YES, number_of};
+use crate::buffer;
 use crate::handle::{Handle, Holds};
-use crate::room;
 use crate::types::Options;
 use regex_lite::{Error, Regex, RegexBuilder};
 use std::alloc::Global;
@@ -116,5 +116,5 @@ fn set_limits(builder: &mut RegexBuilder, options: &Options)
 pub(crate) fn write_message(error: &Error, message: &mut [u8], len: &mut usize)
     ensures { IsMessage (text_of error.now) message.old message.new len.new }
 {
-    room::write(error.text().as_bytes(), message, len);
+    buffer::write(error.text().as_bytes(), message, len);
 }

@@ -78,7 +78,7 @@ fn are_lengths(texts: &str, lens: &[usize]) -> bool
 /// Writes the first match in each of these texts.
 fn put_each(searcher: &mut RegexSearcher<'_>, texts: &str, lens: &[usize], spans: &mut [Span])
     requires lengths { AreTextLengths texts.now 0 lens.now }
-    requires room { length lens.now ≤ length spans.old }
+    requires buffer { length lens.now ≤ length spans.old }
     ensures { AreFoundEach searcher.old texts.now lens.now spans.old spans.new }
 {
     let mut at = 0;

@@ -2,9 +2,9 @@
 ghost use Rattle.std.specs.Prelude.{◌≡◌, ◌↔◌, ◌<◌, IfSome, IsTrue, None, cond, length};
 ghost use Rattle.std.specs.Prelude.{slice_set, true};
 ghost use Rattle.regex_lite_c.specs.Answers.{IsOfFound};
-ghost use Rattle.regex_lite_c.specs.GroupWalks.{IsFilled, IsGroupWalkAnswer};
-ghost use Rattle.regex_lite_c.specs.GroupWalks.{IsGroupWalkAnswerOf, IsToldFull, group_room};
-ghost use Rattle.regex_lite_c.specs.Walks.{walk_room};
+ghost use Rattle.regex_lite_c.specs.GroupWalks.{IsFilled, IsFull, IsGroupWalkAnswer};
+ghost use Rattle.regex_lite_c.specs.GroupWalks.{IsGroupWalkAnswerOf, group_buffer};
+ghost use Rattle.regex_lite_c.specs.Walks.{walk_buffer};
 
 use crate::answer::{NO, NO_ROOM, NOTHING_HELD, OUT_OF_MEMORY, YES};
 use crate::groups::put_groups;
@@ -35,7 +35,7 @@ pub extern "C" fn regex_lite_captures_all(
     ensures nothing_held { handle.old.value ≡ None → (result ≡ NOTHING_HELD)
         × (walk.new ≡ walk.old) × (spans.new ≡ spans.old) × (count.new ≡ 0) }
     ensures answer { IfSome handle.old.value (λ re. IsGroupWalkAnswer re text.now
-        (walk_room walk.old spans.old) (walk_room walk.new spans.new) count.new result) }
+        (walk_buffer walk.old spans.old) (walk_buffer walk.new spans.new) count.new result) }
 {
     *count = 0;
     let Some(regex) = handle.take(alloc) else {
@@ -52,15 +52,15 @@ pub(crate) fn captures_all<P: Sought>(
     sought: &P,
     text: &[u8],
     walk: &mut MatchWalk,
-    told: &mut [P::Told],
+    reported: &mut [P::Reported],
     spans: &mut [Span],
 ) -> (u32, usize)
     ensures { IsGroupWalkAnswerOf P.kind sought.now text.now
-        (group_room walk.old told.old spans.old)
-        (group_room walk.new told.new spans.new) result.1 result.0 }
+        (group_buffer walk.old reported.old spans.old)
+        (group_buffer walk.new reported.new spans.new) result.1 result.0 }
 {
     match text_from(text, walk.ended().unwrap_or(0)) {
-        Ok(text) => sought.write_groups_after(text, walk, told, spans),
+        Ok(text) => sought.write_groups_after(text, walk, reported, spans),
         Err(refusal) => (refusal, 0),
     }
 }
@@ -69,13 +69,13 @@ pub(crate) fn captures_all<P: Sought>(
 pub(crate) fn fill_groups<'h, M: GroupsAhead<'h>>(
     matches: &mut M,
     walk: &mut MatchWalk,
-    told: &mut [<M::Sought as Search>::Told],
+    reported: &mut [<M::Sought as Search>::Reported],
     spans: &mut [Span],
 ) -> (u32, usize)
     requires { (M.ahead matches.old).limit ≡ None }
     ensures filled { IsFilled M.Sought.kind (M.ahead matches.old)
-        (group_room walk.old told.old spans.old) (group_room walk.new told.new spans.new)
-        result.1 result.0 }
+        (group_buffer walk.old reported.old spans.old)
+        (group_buffer walk.new reported.new spans.new) result.1 result.0 }
     ensures one_of { IsOfFound result.0 }
 {
     let mut count = 0;
@@ -83,11 +83,15 @@ pub(crate) fn fill_groups<'h, M: GroupsAhead<'h>>(
     'matches: loop {
         match matches.next_groups() {
             Ok(Some((own, caps))) => {
-                if is_told_full::<M::Sought>(told, count) || spans.len() - used < caps.len() {
-                    return or_none(count, NO_ROOM, told_without_room::<M::Sought>(caps.len()));
+                if is_full::<M::Sought>(reported, count) || spans.len() - used < caps.len() {
+                    return or_none(
+                        count,
+                        NO_ROOM,
+                        reported_without_buffer::<M::Sought>(caps.len()),
+                    );
                 }
                 put_groups(&caps, spans, used);
-                put_told::<M::Sought>(told, count, own);
+                put_reported::<M::Sought>(reported, count, own);
                 *walk = MatchWalk::after(&Span::of_group(caps.get(0)));
                 used += caps.len();
                 count += 1;
@@ -100,26 +104,26 @@ pub(crate) fn fill_groups<'h, M: GroupsAhead<'h>>(
 
 /// Whether the room for what is written of each match besides spans is full after this many
 /// matches.
-fn is_told_full<P: Written>(told: &[P::Told], count: usize) -> bool
-    ensures { IsTrue result ↔ IsToldFull P.kind told.now count }
+fn is_full<P: Written>(reported: &[P::Reported], count: usize) -> bool
+    ensures { IsTrue result ↔ IsFull P.kind reported.now count }
 {
-    P::is_told() && told.len() == count
+    P::is_reported() && reported.len() == count
 }
 
 /// The number to write if there is no room for a match with this many groups.
-fn told_without_room<P: Written>(groups: usize) -> usize
-    ensures { result ≡ cond P.kind.is_told groups 0 }
+fn reported_without_buffer<P: Written>(groups: usize) -> usize
+    ensures { result ≡ cond P.kind.is_reported groups 0 }
 {
-    if P::is_told() { groups } else { 0 }
+    if P::is_reported() { groups } else { 0 }
 }
 
 /// Writes what is to be written of a match besides spans, if anything is.
-fn put_told<P: Written>(told: &mut [P::Told], at: usize, own: P::Told)
-    requires { P.kind.is_told ≡ true → at < length told.old }
-    ensures { P.kind.is_told ≡ true → told.new ≡ slice_set told.old at own }
+fn put_reported<P: Written>(reported: &mut [P::Reported], at: usize, own: P::Reported)
+    requires { P.kind.is_reported ≡ true → at < length reported.old }
+    ensures { P.kind.is_reported ≡ true → reported.new ≡ slice_set reported.old at own }
 {
-    if P::is_told() {
-        told[at] = own;
+    if P::is_reported() {
+        reported[at] = own;
     }
 }
 

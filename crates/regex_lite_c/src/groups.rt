@@ -43,12 +43,12 @@ pub(crate) fn captures<P: Search>(
     text: &[u8],
     start: usize,
     spans: &mut [Span],
-    told: &mut P::Told,
+    reported: &mut P::Reported,
 ) -> u32
     requires { P.can_search search.now }
     ensures { IsGroupsAnswerOf (P.search.AreFirst search.now text.now start)
         (P.search.AreNone search.now text.now start) text.now start spans.old spans.new
-        told.old told.new result }
+        reported.old reported.new result }
 {
     let text = match text_from(text, start) {
         Ok(text) => text,
@@ -56,7 +56,7 @@ pub(crate) fn captures<P: Search>(
     };
     match search.first_groups(text, start) {
         Ok(Some((own, caps))) => {
-            *told = own;
+            *reported = own;
             write_groups(&caps, spans)
         }
         Ok(None) => NO,

@@ -14,6 +14,7 @@
 mod about;
 mod anchored;
 mod answer;
+mod buffer;
 mod build;
 mod each;
 mod fault;
@@ -25,7 +26,6 @@ mod outline;
 mod place;
 mod properties;
 mod replace;
-mod room;
 mod search;
 mod searcher;
 mod sought;

@@ -8,11 +8,11 @@ ghost use Rattle.regex_lite.specs.CaptureNames.{names_left};
 ghost use Rattle.regex_lite.specs.Expression.{OfTree};
 ghost use Rattle.regex_lite.specs.Groups.{index_of, is_named};
 ghost use Rattle.regex_lite_c.specs.Names.{IsIndexAnswer, IsNameAnswer};
-ghost use Rattle.regex_lite_c.specs.Rooms.{IsWritten};
+ghost use Rattle.regex_lite_c.specs.Buffers.{IsWritten};
 
 use crate::answer::{NO, NO_GROUP, NOTHING_HELD, YES, answer_of};
+use crate::buffer;
 use crate::handle::{Handle, Holds, ask};
-use crate::room;
 use regex_lite::{CaptureNames, Regex};
 use std::alloc::Global;
 
@@ -21,16 +21,16 @@ use std::alloc::Global;
 pub extern "C" fn regex_lite_pattern(
     alloc: Global,
     handle: &mut Handle,
-    room: &mut [u8],
+    buffer: &mut [u8],
     len: &mut usize,
 ) -> u32
     ensures same { handle.new.value ≡ handle.old.value }
     ensures nothing_held { handle.old.value ≡ None
-        → (result ≡ NOTHING_HELD) × (room.new ≡ room.old) × (len.new ≡ len.old) }
+        → (result ≡ NOTHING_HELD) × (buffer.new ≡ buffer.old) × (len.new ≡ len.old) }
     ensures answer { IfSome handle.old.value (λ re.
-        IsWritten re.pattern room.old room.new len.new result) }
+        IsWritten re.pattern buffer.old buffer.new len.new result) }
 {
-    room::write_from(alloc, handle, room, len, |regex| Ok(regex.as_str()))
+    buffer::write_from(alloc, handle, buffer, len, |regex| Ok(regex.as_str()))
 }
 
 /// The number of groups of a match, including the whole match; 0 if the handle holds nothing.
@@ -97,29 +97,29 @@ pub extern "C" fn regex_lite_group_name(
     alloc: Global,
     handle: &mut Handle,
     index: usize,
-    room: &mut [u8],
+    buffer: &mut [u8],
     len: &mut usize,
 ) -> u32
     ensures same { handle.new.value ≡ handle.old.value }
     ensures nothing_held { handle.old.value ≡ None
-        → (result ≡ NOTHING_HELD) × (room.new ≡ room.old) × (len.new ≡ len.old) }
+        → (result ≡ NOTHING_HELD) × (buffer.new ≡ buffer.old) × (len.new ≡ len.old) }
     ensures answer { IfSome handle.old.value (λ re.
-        IsNameAnswer re index room.old room.new len.old len.new result) }
+        IsNameAnswer re index buffer.old buffer.new len.old len.new result) }
 {
     let Some(regex) = handle.take(alloc) else {
         return NOTHING_HELD;
     };
-    let answer = group_name(&regex, index, room, len);
+    let answer = group_name(&regex, index, buffer, len);
     handle.put(regex);
     answer
 }
 
 /// Writes the name of this group.
-fn group_name(regex: &Regex, index: usize, room: &mut [u8], len: &mut usize) -> u32
-    ensures { IsNameAnswer regex.now index room.old room.new len.old len.new result }
+fn group_name(regex: &Regex, index: usize, buffer: &mut [u8], len: &mut usize) -> u32
+    ensures { IsNameAnswer regex.now index buffer.old buffer.new len.old len.new result }
 {
     match name_in(regex.capture_names(), index) {
-        Some(Some(name)) => room::write(name.as_bytes(), room, len),
+        Some(Some(name)) => buffer::write(name.as_bytes(), buffer, len),
         Some(None) => NO,
         None => NO_GROUP,
     }

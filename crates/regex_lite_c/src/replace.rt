@@ -5,8 +5,8 @@ ghost use Rattle.regex_lite.specs.Escapes.{escaped_pattern};
 ghost use Rattle.regex_lite_c.specs.Replacing.{IsReplaced, IsTextAnswer};
 
 use crate::answer::{NOT_TEXT, NOTHING_HELD, OUT_OF_MEMORY};
+use crate::buffer;
 use crate::handle::{Handle, Holds};
-use crate::room;
 use crate::types::Replacing;
 use regex_lite::{Error, NoExpand, Regex};
 use std::alloc::Global;
@@ -21,24 +21,24 @@ pub extern "C" fn regex_lite_replace(
     text: &[u8],
     template: &[u8],
     replacing: &mut Replacing,
-    room: &mut [u8],
+    buffer: &mut [u8],
 ) -> u32
     ensures same { handle.new.value ≡ handle.old.value }
     ensures how { (replacing.new.limit ≡ replacing.old.limit)
         × (replacing.new.is_literal ≡ replacing.old.is_literal) }
     ensures nothing_held { handle.old.value ≡ None → (result ≡ NOTHING_HELD)
-        × (replacing.new ≡ replacing.old) × (room.new ≡ room.old) }
+        × (replacing.new ≡ replacing.old) × (buffer.new ≡ buffer.old) }
     ensures answer { IfSome handle.old.value (λ re. IsTextAnswer
         (IsUtf8 text.now × IsUtf8 template.now)
         (λ new. IsReplaced re text.now template.now replacing.old new replacing.new.count)
-        room.old room.new replacing.old.len replacing.new.len result) }
+        buffer.old buffer.new replacing.old.len replacing.new.len result) }
     ensures not_counted { (result ≡ NOT_TEXT) ⊎ (result ≡ OUT_OF_MEMORY)
         → replacing.new.count ≡ replacing.old.count }
 {
     let Some(regex) = handle.take(alloc) else {
         return NOTHING_HELD;
     };
-    let answer = replace(&regex, text, template, replacing, room);
+    let answer = replace(&regex, text, template, replacing, buffer);
     handle.put(regex);
     answer
 }
@@ -49,14 +49,14 @@ fn replace(
     text: &[u8],
     template: &[u8],
     replacing: &mut Replacing,
-    room: &mut [u8],
+    buffer: &mut [u8],
 ) -> u32
     ensures how { (replacing.new.limit ≡ replacing.old.limit)
         × (replacing.new.is_literal ≡ replacing.old.is_literal) }
     ensures held { result ≢ NOTHING_HELD }
     ensures answer { IsTextAnswer (IsUtf8 text.now × IsUtf8 template.now)
         (λ new. IsReplaced regex.now text.now template.now replacing.old new replacing.new.count)
-        room.old room.new replacing.old.len replacing.new.len result }
+        buffer.old buffer.new replacing.old.len replacing.new.len result }
     ensures not_counted { (result ≡ NOT_TEXT) ⊎ (result ≡ OUT_OF_MEMORY)
         → replacing.new.count ≡ replacing.old.count }
 {
@@ -69,7 +69,7 @@ fn replace(
     match replaced(regex, text, template, replacing) {
         Ok((new, count)) => {
             replacing.count = count;
-            room::write(new.as_str().as_bytes(), room, &mut replacing.len)
+            buffer::write(new.as_str().as_bytes(), buffer, &mut replacing.len)
         }
         Err(_) => OUT_OF_MEMORY,
     }
@@ -98,17 +98,17 @@ fn replaced<'h>(
 pub extern "C" fn regex_lite_escape(
     alloc: Global,
     text: &[u8],
-    room: &mut [u8],
+    buffer: &mut [u8],
     len: &mut usize,
 ) -> u32
     ensures { IsTextAnswer (IsUtf8 text.now) (λ new. new ≡ escaped_pattern text.now)
-        room.old room.new len.old len.new result }
+        buffer.old buffer.new len.old len.new result }
 {
     let Ok(text) = std::str::from_utf8(text) else {
         return NOT_TEXT;
     };
     match regex_lite::escape(alloc, text) {
-        Ok(pattern) => room::write(pattern.as_str().as_bytes(), room, len),
+        Ok(pattern) => buffer::write(pattern.as_str().as_bytes(), buffer, len),
         Err(_) => OUT_OF_MEMORY,
     }
 }

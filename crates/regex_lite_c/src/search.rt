@@ -144,11 +144,11 @@ pub(crate) fn find_counted<P: Sought>(
         Ok(text) => text,
         Err(refusal) => return refusal,
     };
-    let Ok(told) = sought.counted_span(text, start) else {
+    let Ok(reported) = sought.counted_span(text, start) else {
         return OUT_OF_MEMORY;
     };
-    *cost = told.1;
-    match told.0 {
+    *cost = reported.1;
+    match reported.0 {
         Some(found) => {
             *span = found;
             YES

@@ -3,9 +3,9 @@ ghost use Rattle.std.specs.Prelude.{◌≡◌, ◌↔◌, ◌<◌, ◌≤◌, le
 ghost use Rattle.std.specs.Prelude.{IfErr, IfOk, IfSome, IsCharBoundary, IsTrue};
 ghost use Rattle.regex_lite.specs.Ahead.{AheadOf, after};
 ghost use Rattle.regex_lite_c.specs.Answers.{IsOfFound};
-ghost use Rattle.regex_lite_c.specs.GroupWalks.{IsFilled, group_room};
+ghost use Rattle.regex_lite_c.specs.GroupWalks.{IsFilled, group_buffer};
 ghost use Rattle.regex_lite_c.specs.Kinds.{GivesGroups, GivesWritten};
-ghost use Rattle.regex_lite_c.specs.SearchKinds.{AreFirstTold, IsFirst, SearchKind};
+ghost use Rattle.regex_lite_c.specs.SearchKinds.{AreFirstReported, IsFirst, SearchKind};
 ghost use Rattle.regex_lite_c.specs.Walks.{AreListed, NoneComes, ended_of};
 
 mod regex;
@@ -21,12 +21,12 @@ pub(crate) trait Search {
     type Span: Copy;
 
     /// The type that is written for groups besides their spans.
-    type Told: Copy;
+    type Reported: Copy;
 
     // A single pattern of a list can be searched for only if the list has it.
     ghost can_search: { Self → Type 0 } = { λ _. ⊤ };
 
-    ghost search: { SearchKind Self Self.Span Self.Told };
+    ghost search: { SearchKind Self Self.Span Self.Reported };
 
     /// Whether the search finds a match.
     fn has_match(&self, text: &str, start: usize) -> Result<bool, Error>
@@ -46,10 +46,10 @@ pub(crate) trait Search {
         &self,
         text: &'h str,
         start: usize,
-    ) -> Result<Option<(Self::Told, Captures<'h>)>, Error>
+    ) -> Result<Option<(Self::Reported, Captures<'h>)>, Error>
         requires can { Self.can_search self.now }
         requires start { IsCharBoundary text.now start }
-        ensures { IfOk result (AreFirstTold Self.search self.now text.now start) };
+        ensures { IfOk result (AreFirstReported Self.search self.now text.now start) };
 }
 
 /// What can be searched for from an offset on, for one match or for all.
@@ -57,9 +57,11 @@ pub(crate) trait Sought: Written + Drop {
     /// The first match from this offset on, and the cost of the search.
     fn counted_span(&self, text: &str, start: usize) -> Result<(Option<Self::Span>, Cost), Error>
         requires { IsCharBoundary text.now start }
-        ensures found { IfOk result (λ told. IsFirst Self.search self.now text.now start told.0) }
-        ensures cost { IfOk result (λ told. Self.kind.IsCost self.now text.now start told.1) }
-        ensures entered { IfOk result (λ told. IfSome told.0 (λ _. 0 < told.1.entered)) };
+        ensures found { IfOk result
+            (λ reported. IsFirst Self.search self.now text.now start reported.0) }
+        ensures cost { IfOk result
+            (λ reported. Self.kind.IsCost self.now text.now start reported.1) }
+        ensures entered { IfOk result (λ reported. IfSome reported.0 (λ _. 0 < reported.1.entered)) };
 
     /// Writes the next matches after one that ended there, and returns their number.
     fn write_after(
@@ -82,13 +84,13 @@ pub(crate) trait Sought: Written + Drop {
         &self,
         text: &str,
         walk: &mut MatchWalk,
-        told: &mut [Self::Told],
+        reported: &mut [Self::Reported],
         spans: &mut [Span],
     ) -> (u32, usize)
         requires { IsCharBoundary text.now (unwrap_or (ended_of walk.old) 0) }
         ensures filled { IsFilled Self.kind (after self.now text.now (ended_of walk.old))
-            (group_room walk.old told.old spans.old) (group_room walk.new told.new spans.new)
-            result.1 result.0 }
+            (group_buffer walk.old reported.old spans.old)
+            (group_buffer walk.new reported.new spans.new) result.1 result.0 }
         ensures one_of { IsOfFound result.0 };
 }
 
@@ -115,7 +117,7 @@ pub(crate) trait GroupsAhead<'h> {
     /// The groups of the next match, if there is one.
     fn next_groups(
         &mut self,
-    ) -> Result<Option<(<Self::Sought as Search>::Told, Captures<'h>)>, Error>
+    ) -> Result<Option<(<Self::Sought as Search>::Reported, Captures<'h>)>, Error>
         ensures { IfOk result
             (λ item. GivesGroups Self.Sought.kind (ahead self.old) item (ahead self.new)) };
 }

@@ -1,7 +1,7 @@
 //! All matches in a text, in batches.
 ghost use Rattle.std.specs.Prelude.{◌≡◌, ◌<◌, ◌≤◌, IfSome, None, length};
 ghost use Rattle.regex_lite_c.specs.Walks.{AreListed, GoesOnAfterLast, IsWalkAnswer};
-ghost use Rattle.regex_lite_c.specs.Walks.{IsWalkAnswerOf, NoneComes, walk_room};
+ghost use Rattle.regex_lite_c.specs.Walks.{IsWalkAnswerOf, NoneComes, walk_buffer};
 
 use crate::answer::{NO, NO_ROOM, NOTHING_HELD, OUT_OF_MEMORY, YES};
 use crate::handle::{Handle, Holds};
@@ -31,7 +31,7 @@ pub extern "C" fn regex_lite_find_all(
     ensures nothing_held { handle.old.value ≡ None → (result ≡ NOTHING_HELD)
         × (walk.new ≡ walk.old) × (spans.new ≡ spans.old) × (count.new ≡ 0) }
     ensures answer { IfSome handle.old.value (λ re. IsWalkAnswer re text.now
-        (walk_room walk.old spans.old) (walk_room walk.new spans.new) count.new result) }
+        (walk_buffer walk.old spans.old) (walk_buffer walk.new spans.new) count.new result) }
 {
     *count = 0;
     let Some(regex) = handle.take(alloc) else {
@@ -51,8 +51,8 @@ pub(crate) fn find_all<P: Sought>(
     count: &mut usize,
 ) -> u32
     requires { count.old ≡ 0 }
-    ensures { IsWalkAnswerOf P.kind sought.now text.now (walk_room walk.old spans.old)
-        (walk_room walk.new spans.new) count.new result }
+    ensures { IsWalkAnswerOf P.kind sought.now text.now (walk_buffer walk.old spans.old)
+        (walk_buffer walk.new spans.new) count.new result }
 {
     let ended = walk.ended();
     let text = match text_from(text, ended.unwrap_or(0)) {

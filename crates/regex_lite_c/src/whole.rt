@@ -27,7 +27,7 @@ impl<'r> Search for Whole<'r, Regex> {
 
     type Span = Span;
 
-    type Told = usize;
+    type Reported = usize;
 
     ghost search = { whole_regex_search };
 

@@ -9,15 +9,15 @@ use regex_lite::{Regex, RegexList};
 
 /// What is searched for, and what a walk over all its matches writes.
 pub(crate) trait Written: Search {
-    ghost kind: { Kind Self Self.Span Self.Told };
+    ghost kind: { Kind Self Self.Span Self.Reported };
 
     /// The end of the match with this span.
     fn end_of(span: &Self::Span) -> usize
         ensures { result ≡ kind.end_of span.now };
 
     /// Whether a walk over all matches writes something for the groups of each besides their spans.
-    fn is_told() -> bool
-        ensures { result ≡ kind.is_told };
+    fn is_reported() -> bool
+        ensures { result ≡ kind.is_reported };
 }
 
 impl Written for Regex {
@@ -29,7 +29,7 @@ impl Written for Regex {
         span.end
     }
 
-    fn is_told() -> bool {
+    fn is_reported() -> bool {
         false
     }
 }
@@ -43,7 +43,7 @@ impl Written for RegexList {
         span.end
     }
 
-    fn is_told() -> bool {
+    fn is_reported() -> bool {
         true
     }
 }

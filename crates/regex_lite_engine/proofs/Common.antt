@@ -39,8 +39,8 @@ pub use Rattle.regex_lite_syntax.specs.Tree.Views.{tree_of}
 pub use Rattle.regex_lite_syntax.specs.declared.class.ClassRange.{ClassRange}
 pub use Rattle.regex_lite_engine.specs.Backtrack.Bits.{bits_of}
 pub use Rattle.regex_lite_engine.specs.Backtrack.Machine.{Pairs, pair_number, was_entered, Held}
-pub use Rattle.regex_lite_engine.specs.Backtrack.Room.{searching}
-pub use Rattle.regex_lite_engine.specs.Backtrack.Searching.{Unwinds}
+pub use Rattle.regex_lite_engine.specs.Backtrack.Capacity.{searching}
+pub use Rattle.regex_lite_engine.specs.Backtrack.Searching.{Restores}
 pub use Rattle.regex_lite_engine.specs.Backtrack.Walking.{WayHolds, SearchFrom}
 pub use Rattle.regex_lite_engine.specs.Graph.Addresses.{Address, part, own, entry, branch_entries}
 pub use Rattle.regex_lite_engine.specs.Graph.Parts.{IsWithin, row_of, IsOwnPart}
@@ -51,9 +51,9 @@ pub use Rattle.regex_lite_engine.specs.Graph.Places.{Condition, free, holding, r
 pub use Rattle.regex_lite_engine.specs.Graph.Places.{complete, with_arrows, renamed_arrow, renamed}
 pub use Rattle.regex_lite_engine.specs.Graph.Places.{read_past, taken, go, go_marking, go_holding}
 pub use Rattle.regex_lite_engine.specs.Graph.Places.{go_reading, choice, one_of, reading_count}
-pub use Rattle.regex_lite_engine.specs.Graph.Places.{reading_of, kept_back, kept_back_with}
-pub use Rattle.regex_lite_engine.specs.Graph.Places.{kept_back_of, arrived, arrow_taken, step_from}
-pub use Rattle.regex_lite_engine.specs.Graph.Places.{step}
+pub use Rattle.regex_lite_engine.specs.Graph.Places.{reading_of, stack_bound, stack_bound_with}
+pub use Rattle.regex_lite_engine.specs.Graph.Places.{stack_bound_of, arrived, arrow_taken}
+pub use Rattle.regex_lite_engine.specs.Graph.Places.{step_from, step}
 pub use Rattle.regex_lite_engine.specs.Graph.Renumbered.{arrow_count, arrows_of, IsRenumbered}
 pub use Rattle.regex_lite_engine.specs.Graph.Renumbered.{IsNumberOf}
 pub use Rattle.regex_lite_engine.specs.Graph.Repetitions.{Content, next_copy, in_copies, no_place}
@@ -78,24 +78,24 @@ pub use Rattle.regex_lite_engine.specs.Nfa.Layout.{pattern_layout, pattern_table
 pub use Rattle.regex_lite_engine.specs.Nfa.Layout.{patterns_entries}
 pub use Rattle.regex_lite_engine.specs.Nfa.Repetitions.{copies_layout, choices_layout, star_layout}
 pub use Rattle.regex_lite_engine.specs.Nfa.Totals.{reading_of_all}
-pub use Rattle.regex_lite_engine.specs.Pikevm.Again.{all_retold, state_retold, best_again}
+pub use Rattle.regex_lite_engine.specs.Pikevm.Again.{all_relabelled, state_relabelled, best_again}
 pub use Rattle.regex_lite_engine.specs.Pikevm.Cells.{nth_row, frame_in, other, place_on}
 pub use Rattle.regex_lite_engine.specs.Pikevm.Cells.{start_on, row_on, threads_on}
 pub use Rattle.regex_lite_engine.specs.Pikevm.Entering.{reads, pushing, reading_on}
 pub use Rattle.regex_lite_engine.specs.Pikevm.Machine.{Thread, thread_at}
-pub use Rattle.regex_lite_engine.specs.Pikevm.Room.{ThreadsBelow, KeepsPosition}
-pub use Rattle.regex_lite_engine.specs.Pikevm.Turns.{best_of, StepsAt, IsComing, IsComingTo, begun}
-pub use Rattle.regex_lite_engine.specs.Pikevm.Turns.{with_starts}
-pub use Rattle.regex_lite_engine.specs.Pikevm.Walking.{WayTold, ThreadsHold, InStep, SearchAt}
-pub use Rattle.regex_lite_syntax.specs.Prefilter.Heads.{NeverBegins, IsPassed}
-pub use Rattle.regex_lite_syntax.specs.Prefilter.ListHeads.{may_start, is_candidate_at}
-pub use Rattle.regex_lite_syntax.specs.Prefilter.ListHeads.{IsPassedByAll}
-pub use Rattle.regex_lite_syntax.specs.Prefilter.Starts.{stops_at, MayBegin}
-pub use Rattle.regex_lite_syntax.specs.Prefilter.Thirds.{may_go_on}
+pub use Rattle.regex_lite_engine.specs.Pikevm.Capacity.{ThreadsBelow, KeepsPosition}
+pub use Rattle.regex_lite_engine.specs.Pikevm.Stepping.{best_of, StepsAt, IsComing, IsComingTo}
+pub use Rattle.regex_lite_engine.specs.Pikevm.Stepping.{begun, with_starts}
+pub use Rattle.regex_lite_engine.specs.Pikevm.Walking.{WayReported, ThreadsHold, InStep, SearchAt}
+pub use Rattle.regex_lite_syntax.specs.Prefilter.PrefixSets.{NeverBegins, IsPassed}
+pub use Rattle.regex_lite_syntax.specs.Prefilter.PrefixIndex.{may_start, is_candidate_at}
+pub use Rattle.regex_lite_syntax.specs.Prefilter.PrefixIndex.{IsPassedByAll}
+pub use Rattle.regex_lite_syntax.specs.Prefilter.FirstSet.{stops_at, MayBegin}
+pub use Rattle.regex_lite_syntax.specs.Prefilter.ThirdMasks.{may_go_on}
 pub use Rattle.regex_lite_engine.specs.Search.Answer.{IsMatchFrom, HasMatchFrom, Found, IsFound}
 pub use Rattle.regex_lite_engine.specs.Search.Answer.{IsAnswer}
 pub use Rattle.regex_lite_engine.specs.Search.AnswerOfList.{AnyMatchesFrom, IsAnswerOfList}
-pub use Rattle.regex_lite_engine.specs.Search.Beginnings.{Told, untold}
+pub use Rattle.regex_lite_engine.specs.Search.ThreadStarts.{Reported, no_start}
 pub use Rattle.regex_lite_engine.specs.Search.Bounds.{StepCounts, StaysCounted, characters_left}
 pub use Rattle.regex_lite_engine.specs.Search.Bounds.{IsBoundedBy}
 pub use Rattle.regex_lite_engine.specs.Search.Counting.{lone, CanCount}
@@ -110,20 +110,20 @@ pub use Rattle.regex_lite_engine.specs.Search.NumberedAnswer.{is_wanted_end}
 pub use Rattle.regex_lite_engine.specs.Search.NumberedList.{IsEntry, StartsOf, IsMatchOfAny}
 pub use Rattle.regex_lite_engine.specs.Search.NumberedList.{IsNumberedAnswerOf}
 pub use Rattle.regex_lite_engine.specs.Search.NumberedOutcomes.{Best, IsNumberedOutcome}
-pub use Rattle.regex_lite_engine.specs.Search.Offers.{Node, Offer, StartsBelow}
+pub use Rattle.regex_lite_engine.specs.Search.Pending.{Node, PendingNode, StartsBelow}
 pub use Rattle.regex_lite_engine.specs.Search.Offsets.{offset, IsOffset, position_at, search_start}
 pub use Rattle.regex_lite_engine.specs.Search.Offsets.{HasSlots}
 pub use Rattle.regex_lite_engine.specs.Search.Preference.{IsPreferred}
 pub use Rattle.regex_lite_engine.specs.Search.PreferenceList.{Entry, after_marks, onward, stop}
 pub use Rattle.regex_lite_engine.specs.Search.PreferenceList.{preference_list, HasReadingLoops}
 pub use Rattle.regex_lite_engine.specs.Search.Rows.{Row, IsBlank}
-pub use Rattle.regex_lite_engine.specs.Search.Standing.{IsHere}
+pub use Rattle.regex_lite_engine.specs.Search.Here.{IsHere}
 pub use Rattle.regex_lite_engine.specs.Search.Starts.{IsDeadAt, AreDeadAt, AreStartsAt, PassesTo}
-pub use Rattle.regex_lite_engine.specs.Search.Starts.{AreListHeadsOf, start_numbered}
+pub use Rattle.regex_lite_engine.specs.Search.Starts.{IsPrefixIndexOf, start_numbered}
 pub use Rattle.regex_lite_engine.specs.SearchLaws.{IsBefore}
 pub use Rattle.regex_lite_engine.specs.declared.pikevm.cell.Cell.{Cell}
-pub use Rattle.regex_lite_syntax.specs.declared.prefilter.heads.Heads.{Heads}
-pub use Rattle.regex_lite_syntax.specs.declared.prefilter.list_heads.ListHeads.{ListHeads}
-pub use Rattle.regex_lite_syntax.specs.declared.prefilter.starts.Starts.{Starts}
+pub use Rattle.regex_lite_syntax.specs.declared.prefilter.prefixes.PrefixSets.{PrefixSets}
+pub use Rattle.regex_lite_syntax.specs.declared.prefilter.prefix_index.PrefixIndex.{PrefixIndex}
+pub use Rattle.regex_lite_syntax.specs.declared.prefilter.first_set.FirstSet.{FirstSet}
 pub use Rattle.regex_lite_engine.specs.declared.search.here.Here.{Here}
 pub use Rattle.regex_lite_engine.specs.declared.search.patterns.Start.{Start}

@@ -9,9 +9,9 @@ pub mod LeftLemmas
 pub mod NumberedLemmas
 pub mod PairMapLemmas
 pub mod PairLemmas
-pub mod RoomLemmas
+pub mod CapacityLemmas
 pub mod RunLemmas
 pub mod StackLemmas
-pub mod UnwindLemmas
+pub mod RestoreLemmas
 pub mod WalkLemmas
 pub mod WentLemmas

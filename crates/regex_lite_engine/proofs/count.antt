@@ -1,6 +1,6 @@
 -- lemmas that several proofs here share
 pub mod ArrowCountLemmas
-pub mod KeptBackLemmas
+pub mod StackBoundLemmas
 pub mod MeasureLemmas
 pub mod NameSizeLemmas
 pub mod PlaceCountLemmas

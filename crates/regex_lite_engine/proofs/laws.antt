@@ -5,7 +5,7 @@ pub mod MatchWalkLemmas
 pub mod PassWalkLemmas
 pub mod PatternTreeLemmas
 pub mod PatternWayLemmas
-pub mod StandingLemmas
+pub mod IsHereLemmas
 pub mod WalkLemmas
 pub mod WrittenPartLemmas
 pub mod WrittenRepetitionLemmas

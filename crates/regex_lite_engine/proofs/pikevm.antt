@@ -11,13 +11,13 @@ pub mod InStepNextLemmas
 pub mod OwnPartLemmas
 pub mod PassLemmas
 pub mod PlaceSetLemmas
-pub mod RoomLemmas
-pub mod RoundLemmas
+pub mod CapacityLemmas
+pub mod GenerationLemmas
 pub mod ShortestLemmas
 pub mod StateLemmas
 pub mod StepLemmas
 pub mod StopLemmas
 pub mod ThreadLemmas
-pub mod TurnLemmas
+pub mod SteppingLemmas
 pub mod WalkLemmas
 pub mod WentLemmas

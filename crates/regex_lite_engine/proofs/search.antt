@@ -9,7 +9,7 @@ pub mod ListAnchoredLemmas
 pub mod ListSkipLemmas
 pub mod MarkLemmas
 pub mod NeededLemmas
-pub mod OfferLemmas
+pub mod PendingLemmas
 pub mod RecordLemmas
 pub mod SkipLemmas
 pub mod WordSearchLemmas

@@ -5,6 +5,6 @@ pub mod DepthFirst
 pub mod Machine
 pub mod Entering
 pub mod Walking
-pub mod Room
+pub mod Capacity
 pub mod Searching
 pub mod Short

@@ -6,8 +6,8 @@ pub mod InStep
 pub mod Walking
 pub mod Entering
 pub mod Again
-pub mod Room
-pub mod Turns
+pub mod Capacity
+pub mod Stepping
 pub mod Searching
 pub mod Passing
 pub mod Stopping

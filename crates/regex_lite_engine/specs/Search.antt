@@ -11,12 +11,12 @@ pub mod Bounds
 pub mod Explored
 pub mod NumberedAnswer
 pub mod NumberedList
-pub mod Beginnings
+pub mod ThreadStarts
 pub mod Rows
 pub mod NumberedOutcomes
 pub mod Counting
-pub mod Offers
-pub mod Standing
+pub mod Pending
+pub mod Here
 pub mod Slots
 pub mod Starts
 pub mod NumberedWords

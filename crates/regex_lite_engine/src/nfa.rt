@@ -11,17 +11,17 @@ ghost use Rattle.regex_lite_syntax.specs.Tree.Regular.{IsRegular};
 ghost use Rattle.regex_lite_syntax.specs.Tree.Views.{tree_of};
 ghost use Rattle.regex_lite_engine.specs.Graph.Renumbered.{arrows_of, IsGraphOf, HasGroupsOf};
 ghost use Rattle.regex_lite_engine.specs.Graph.Size.{Fits, IsDueToTree};
-ghost use Rattle.regex_lite_engine.specs.Graph.Places.{kept_back_of};
+ghost use Rattle.regex_lite_engine.specs.Graph.Places.{stack_bound_of};
 ghost use Rattle.regex_lite_engine.specs.Graph.Stored.{places_of, table_of};
 ghost use Rattle.regex_lite_engine.specs.Search.Filters.{facts_of};
 ghost use Rattle.regex_lite_engine.specs.Search.Starts.{AreFactsOf, DoWordsAnswer};
 
 pub(crate) mod class;
 pub(crate) mod groups;
-pub(crate) mod kept_back;
 pub mod list;
 pub mod place;
 mod reads;
+pub(crate) mod stack_bound;
 pub mod table;
 mod write;
 
@@ -152,7 +152,7 @@ impl Graph {
     pub fn places(&self) -> usize
         ensures same { result ≡ length self.now.places }
         ensures few { result < 2 ^ 32 }
-        ensures kept_back { kept_back_of (table_of self.now) < result }
+        ensures stack_bound { stack_bound_of (table_of self.now) < result }
         ensures few_arrows { arrows_of (table_of self.now) < 2 ^ 34 }
     {
         self.table.places()

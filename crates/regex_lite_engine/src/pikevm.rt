@@ -10,7 +10,7 @@
 //!
 //! # How it works
 //!
-//! A step (`turn`) follows the threads of a position in the order of their preference. It takes the
+//! A step (`step`) follows the threads of a position in the order of their preference. It takes the
 //! epsilon closure of each depth first: `enter` goes on along a state's first transition and pushes
 //! the others onto a stack (`stack`), so nothing recurses. A state is entered once at a position,
 //! by the most preferred path that comes to it, and all later paths end there. A state that reads a
@@ -42,20 +42,20 @@
 //! also the slowest engine: a character costs a visit to each state that some thread reaches, and
 //! with slots a copy of a row for each thread. Where there is neither a thread nor a match, the
 //! prefilter names the next start (`pass`). Modes are type parameters, so one loop serves all: a
-//! `Beginning` says what a thread keeps of its start, which may be nothing; EARLIEST ends a search
-//! at the first position that completes a match; WHOLE lets only the haystack's end complete one.
+//! `ThreadStart` says what a thread keeps of its start, which may be nothing; EARLIEST ends a
+//! search at the first position that completes a match; WHOLE lets only the haystack's end complete
+//! one.
 //! The states that a search tries and enters are counted, and bounds on these counts are proved.
 //!
 //! # Where it is used
 //!
 //! `strategy` in `regex_lite_meta` takes it where nothing faster fits. Anchored searches and whole
-//! matches go by it (`anchored`), and it takes the steps that the lazy DFA caches. Read `turn`
+//! matches go by it (`anchored`), and it takes the steps that the lazy DFA caches. Read `step`
 //! next, then `walk` and `enter`, and for the loop over positions `run`. Its invariant is
 //! `IsInStep` in `specs/Pikevm/InStep.antt`.
 
 pub mod anchored;
 mod anchored_search;
-pub mod beginning;
 pub mod best;
 pub mod cache;
 pub(crate) mod cell;
@@ -69,6 +69,7 @@ pub mod run;
 pub(crate) mod search;
 pub(crate) mod slot;
 mod stack;
+pub(crate) mod step;
+pub mod thread_start;
 mod threads;
-pub(crate) mod turn;
 pub(crate) mod walk;

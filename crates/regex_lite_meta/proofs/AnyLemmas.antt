@@ -13,7 +13,7 @@ use Rattle.regex_lite_engine.specs.Graph.StoredList.{IsGraphOfList, StoredList}
 use Rattle.regex_lite_engine.specs.Graph.WrittenOut.{start_address, written_out}
 use Rattle.regex_lite_engine.specs.Search.Answer.{HasMatchFrom}
 use Rattle.regex_lite_engine.specs.Search.AnswerOfList.{AnyMatchesFrom}
-use Rattle.regex_lite_engine.specs.Search.NumberedOutcomes.{IsNumberedOutcome, match_told}
+use Rattle.regex_lite_engine.specs.Search.NumberedOutcomes.{IsNumberedOutcome, match_reported}
 use Rattle.regex_lite_engine.specs.Search.Offsets.{search_start}
 use Rattle.regex_lite_engine.specs.Search.OutcomeOfOne.{ending_at}
 use Rattle.regex_lite_engine.specs.declared.search.outcome.Outcome.{Outcome}
@@ -56,10 +56,10 @@ module _ (table : List (Place ℕ)) (bytes : List ℕ) (entry start : ℕ) where
   )
 
   pub by_outcome : (outcome : Option Outcome)
-      → IsNumberedOutcome table (chars bytes) entry (position_at bytes start) (match_told outcome)
-      → IsTrue (is_some outcome) ↔ HasOwn
+      → IsNumberedOutcome table (chars bytes) entry (position_at bytes start)
+      (match_reported outcome) → IsTrue (is_some outcome) ↔ HasOwn
   by_outcome None none = by_match None none
-  by_outcome (Some outcome) is = by_match (match_told (Some outcome)) is
+  by_outcome (Some outcome) is = by_match (match_reported (Some outcome)) is
 
   pub by_span : (span : Option (ℕ × ℕ))
       → IsNumberedOutcome table (chars bytes) entry (position_at bytes start) (best_at span [])
@@ -110,11 +110,11 @@ module _ (tree : Tree) (regular : IsRegular tree) (graph : StoredGraph)
       (whole_number is.name table start_address graph.start is.start) regular s i j m in
       (i, 0, way, q, j, record { entry = graph.start; is_entry = refl; is_match = n })
 
-  pub any_of_tree : (told : Bool)
-      → (IsTrue told ↔ HasMatchOfAny table (chars bytes) (graph.start ∷ []) s)
-      → IsTrue told ↔ HasMatchFrom tree (chars bytes) (search_start bytes start)
-  any_of_tree told both =
-      subst (λ s. IsTrue told ↔ HasMatchFrom tree (chars bytes) s)
+  pub any_of_tree : (reported : Bool)
+      → (IsTrue reported ↔ HasMatchOfAny table (chars bytes) (graph.start ∷ []) s)
+      → IsTrue reported ↔ HasMatchFrom tree (chars bytes) (search_start bytes start)
+  any_of_tree reported both =
+      subst (λ s. IsTrue reported ↔ HasMatchFrom tree (chars bytes) s)
       (sym (start_inside bytes start inside))
       (λ yes. there (both.0 yes), λ has. both.1 (back has))
 
@@ -142,10 +142,10 @@ module _ (trees : List Tree) (list : StoredList) (is : IsGraphOfList trees list)
       is.entries regular from k i j tree known m in
       (i, k, way, q, j, n)
 
-  pub any_of_trees : (told : Bool)
-      → (IsTrue told ↔ HasMatchOfAny all (chars bytes) list.entries from)
-      → IsTrue told ↔ AnyMatchesFrom trees (chars bytes) (search_start bytes start)
-  any_of_trees told both =
-      subst (λ s. IsTrue told ↔ AnyMatchesFrom trees (chars bytes) s)
+  pub any_of_trees : (reported : Bool)
+      → (IsTrue reported ↔ HasMatchOfAny all (chars bytes) list.entries from)
+      → IsTrue reported ↔ AnyMatchesFrom trees (chars bytes) (search_start bytes start)
+  any_of_trees reported both =
+      subst (λ s. IsTrue reported ↔ AnyMatchesFrom trees (chars bytes) s)
       (sym (start_inside bytes start inside))
       (λ yes. any_there (both.0 yes), λ has. both.1 (any_back has))

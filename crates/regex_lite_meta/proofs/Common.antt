@@ -17,7 +17,7 @@ pub use Rattle.regex_lite_engine.specs.Graph.Stored.{place_of, table_of, places_
 pub use Rattle.regex_lite_engine.specs.Graph.StoredList.{table_of_list}
 pub use Rattle.regex_lite_engine.specs.Pikevm.Again.{AreAlike}
 pub use Rattle.regex_lite_engine.specs.Pikevm.Machine.{Thread}
-pub use Rattle.regex_lite_engine.specs.Pikevm.Turns.{best_of, IsComing}
+pub use Rattle.regex_lite_engine.specs.Pikevm.Stepping.{best_of, IsComing}
 pub use Rattle.regex_lite_engine.specs.Search.Answer.{Found}
 pub use Rattle.regex_lite_engine.specs.Search.NumberedAnswer.{IsNumberedFound}
 pub use Rattle.regex_lite_engine.specs.Search.NumberedOutcomes.{Best, best_kept, best_at}
@@ -25,26 +25,26 @@ pub use Rattle.regex_lite_engine.specs.Search.NumberedOutcomes.{with_start_kept,
 pub use Rattle.regex_lite_engine.specs.Search.NumberedOutcomes.{span_of, IsNumberedEndOf, IsFoundOf}
 pub use Rattle.regex_lite_engine.specs.Search.Offsets.{offset, IsOffset, position_at}
 pub use Rattle.regex_lite_engine.specs.Search.Rows.{Row}
-pub use Rattle.regex_lite_engine.specs.Search.Standing.{IsHere}
+pub use Rattle.regex_lite_engine.specs.Search.Here.{IsHere}
 pub use Rattle.regex_lite_engine.specs.Search.Starts.{AreDeadAt, PassesTo}
-pub use Rattle.regex_lite_engine.specs.declared.pikevm.beginning.Origin.{Origin}
+pub use Rattle.regex_lite_engine.specs.declared.pikevm.thread_start.MatchStart.{MatchStart}
 pub use Rattle.regex_lite_engine.specs.declared.pikevm.cache.Cache.{Cache}
 pub use Rattle.regex_lite_engine.specs.declared.search.here.Here.{Here}
 pub use Rattle.regex_lite_meta.specs.LazyDfa.Automaton.{Automaton, ways_of, Suits, unknown, LeadsOn}
-pub use Rattle.regex_lite_meta.specs.LazyDfa.Automaton.{Remembers, threads_of, best_left, Way}
-pub use Rattle.regex_lite_meta.specs.LazyDfa.Automaton.{told_by, FitsTable, searching_after}
+pub use Rattle.regex_lite_meta.specs.LazyDfa.Automaton.{IsDfaOf, threads_of, best_left, Way}
+pub use Rattle.regex_lite_meta.specs.LazyDfa.Automaton.{reported_by, FitsTable, searching_after}
 pub use Rattle.regex_lite_meta.specs.LazyDfa.Boundaries.{Grows}
 pub use Rattle.regex_lite_meta.specs.LazyDfa.Extending.{Extends}
-pub use Rattle.regex_lite_meta.specs.LazyDfa.Intervals.{side_of, Intervals, class_of, classes_in}
+pub use Rattle.regex_lite_meta.specs.LazyDfa.Intervals.{context_of, Intervals, class_of, classes_in}
 pub use Rattle.regex_lite_meta.specs.LazyDfa.Intervals.{IsBoundedPlace, AreIntervalsOf, IsBoundary}
 pub use Rattle.regex_lite_meta.specs.LazyDfa.Intervals.{AreBounded, interval_of, character_bounds}
 pub use Rattle.regex_lite_meta.specs.LazyDfa.Intervals.{look_bounds}
-pub use Rattle.regex_lite_meta.specs.LazyDfa.Learning.{IsFirstStart, IsIn}
+pub use Rattle.regex_lite_meta.specs.LazyDfa.Determinizing.{IsFirstStart, IsIn}
 pub use Rattle.regex_lite_meta.specs.LazyDfa.Running.{IsOnItsWay, Stands}
-pub use Rattle.regex_lite_meta.specs.LazyDfa.Scanning.{best_told, IsSince, IsScanning, span_told}
-pub use Rattle.regex_lite_meta.specs.LazyDfa.Scanning.{IsIdleAt}
-pub use Rattle.regex_lite_meta.specs.LazyDfa.Stored.{way_in, hit_in, number_of, state_in}
-pub use Rattle.regex_lite_meta.specs.declared.lazy_dfa.scan.Standing.{Standing}
+pub use Rattle.regex_lite_meta.specs.LazyDfa.Scanning.{best_reported, IsSince, IsScanning}
+pub use Rattle.regex_lite_meta.specs.LazyDfa.Scanning.{span_reported, IsStartStateAt}
+pub use Rattle.regex_lite_meta.specs.LazyDfa.Stored.{way_in, match_flag_in, number_of, state_in}
+pub use Rattle.regex_lite_meta.specs.declared.lazy_dfa.scan.DfaPosition.{DfaPosition}
 pub use Rattle.regex_lite_meta.specs.declared.lazy_dfa.state.StoredState.{StoredState}
 pub use Rattle.regex_lite_meta.specs.declared.lazy_dfa.state.StoredWay.{StoredWay}
-pub use Rattle.regex_lite_meta.specs.declared.lazy_dfa.state.Target.{Target}
+pub use Rattle.regex_lite_meta.specs.declared.lazy_dfa.state.NextState.{NextState}

@@ -8,7 +8,7 @@ use Rattle.regex_lite_engine.specs.declared.search.outcome.Outcome.{Outcome}
 use Rattle.regex_lite_engine.specs.Search.Bounds.{StepCounts}
 use Rattle.regex_lite_engine.specs.Search.NumberedAnswer.{IsNumberedMatch, NoneStartsBefore}
 use Rattle.regex_lite_engine.specs.Search.NumberedList.{IsMatchOfAny}
-use Rattle.regex_lite_engine.specs.Search.NumberedOutcomes.{match_told}
+use Rattle.regex_lite_engine.specs.Search.NumberedOutcomes.{match_reported}
 use Rattle.regex_lite_engine.specs.Search.OutcomeOfOne.{ending_at, IsWithinBounds, TellsEndOfOne}
 use Rattle.regex_lite_engine.specs.Search.OutcomeOfOne.{TellsOfOne}
 use Rattle.regex_lite_engine.specs.Search.Starts.{AreDeadFrom, IsDeadAt}
@@ -58,13 +58,13 @@ module _ (table : List (Place ℕ)) (haystack : Text) (entry s : ℕ) where
 
 module _ (table : List (Place ℕ)) (bytes : List ℕ) (entry : ℕ) (start : ℕ) where
   -- it is the least end from the offset on
-  pub end_told : (utf8 : IsUtf8 bytes) (first : Here)
+  pub end_reported : (utf8 : IsUtf8 bytes) (first : Here)
       → PassesTo (IsDeadAt table (chars bytes) entry) (chars bytes) (position_at bytes start) first
       → (best : Best)
       → IsNumberedEndOf table (chars bytes) (entry ∷ []) (position_at bytes first.at) best
       → IsNumberedEndOf table (chars bytes) (entry ∷ []) (position_at bytes start)
       (ending_at (option_map (λ best. best.1) best))
-  end_told utf8 first passes best found =
+  end_reported utf8 first passes best found =
       let s = position_at bytes start in
       let m = position_at bytes first.at in
       ends_there table (chars bytes) (entry ∷ []) s best
@@ -74,9 +74,9 @@ module _ (table : List (Place ℕ)) (bytes : List ℕ) (entry : ℕ) (start : �
       (one_end table (chars bytes) entry m best found)))
 
   -- where no match may begin there is none
-  pub none_told : AreDeadFrom table (chars bytes) entry (position_at bytes start)
+  pub none_reported : AreDeadFrom table (chars bytes) entry (position_at bytes start)
       → IsNumberedEndOf table (chars bytes) (entry ∷ []) (position_at bytes start) None
-  none_told dead =
+  none_reported dead =
       let s = position_at bytes start in
       end_of_one table (chars bytes) entry s None (none_from table (chars bytes) entry s dead)
 
@@ -94,23 +94,24 @@ module _ (table : List (Place ℕ)) (haystack : List ℕ) (entry start first : �
       bounded_from (length table) (arrows_of table) (chars haystack) (position_at haystack start)
       (position_at haystack first) steps.tried steps.entered steps.looked before.from
 
-  pub found_from_later : (width : ℕ) (told : Option Outcome × StepCounts) → NoneBetween
-      → TellsOfOne table entry haystack first width told
-      → TellsOfOne table entry haystack start width told
-  found_from_later width told before tells = record {
+  pub found_from_later : (width : ℕ) (reported : Option Outcome × StepCounts) → NoneBetween
+      → TellsOfOne table entry haystack first width reported
+      → TellsOfOne table entry haystack start width reported
+  found_from_later width reported before tells = record {
     found = answer_from table (chars haystack) entry (position_at haystack start)
-        (position_at haystack first) before (with_start_kept (match_told told.0)) tells.found;
+        (position_at haystack first) before (with_start_kept (match_reported reported.0))
+        tells.found;
     slots = tells.slots;
-    cost = cost_from told.1 before tells.cost;
+    cost = cost_from reported.1 before tells.cost;
     entered = tells.entered;
   }
 
-  pub end_from_later : (told : Option ℕ × StepCounts) → NoneBetween
-      → TellsEndOfOne table entry haystack first told
-      → TellsEndOfOne table entry haystack start told
-  end_from_later told before tells = record {
+  pub end_from_later : (reported : Option ℕ × StepCounts) → NoneBetween
+      → TellsEndOfOne table entry haystack first reported
+      → TellsEndOfOne table entry haystack start reported
+  end_from_later reported before tells = record {
     found = ends_from table (chars haystack) entry (position_at haystack start)
-        (position_at haystack first) before (ending_at told.0) tells.found;
-    cost = cost_from told.1 before tells.cost;
+        (position_at haystack first) before (ending_at reported.0) tells.found;
+    cost = cost_from reported.1 before tells.cost;
     entered = tells.entered;
   }

@@ -8,9 +8,9 @@ use Rattle.regex_lite_meta.proofs.Common.{table_of, table_of_list}
 use Rattle.regex_lite_engine.specs.Graph.StoredList.{StoredList}
 use Rattle.regex_lite_engine.specs.declared.search.outcome.Outcome.{Outcome}
 use Rattle.regex_lite_engine.specs.Graph.Places.{Place}
-use Rattle.regex_lite_engine.specs.Search.NumberedOutcomes.{IsNumberedOutcome, match_told}
-use Rattle.regex_lite_engine.specs.Search.NumberedOutcomes.{numbered_at, numbered_told}
-use Rattle.regex_lite_engine.specs.Search.NumberedOutcomes.{with_origin_kept}
+use Rattle.regex_lite_engine.specs.Search.NumberedOutcomes.{IsNumberedOutcome, match_reported}
+use Rattle.regex_lite_engine.specs.Search.NumberedOutcomes.{numbered_at, numbered_reported}
+use Rattle.regex_lite_engine.specs.Search.NumberedOutcomes.{with_match_start_kept}
 use Rattle.regex_lite_meta.specs.Memories.{SearchesForOne, SearchesList}
 use Rattle.regex_lite_meta.specs.declared.list_searcher.Inner.TheVariants.{One}
 use Rattle.regex_lite_meta.specs.declared.pattern_searcher.PatternSearcher.{PatternSearcher}
@@ -23,13 +23,13 @@ use Rattle.regex_lite_engine.specs.Graph.Stored.{StoredGraph}
 use Rattle.regex_lite_engine.specs.Search.OutcomeOfOne.{ending_at}
 use Rattle.regex_lite_engine.specs.Search.Outcomes.{IsEndOutcome}
 use Rattle.regex_lite_engine.proofs.pikevm.ShortestLemmas.{one_end}
-use Rattle.regex_lite_engine.proofs.search.OutcomeLemmas.{end_told}
+use Rattle.regex_lite_engine.proofs.search.OutcomeLemmas.{end_reported}
 
 module _ (table : List (Place ℕ)) (haystack : Text) (entry s : ℕ) where
   pub span_of_one : (span : Option (ℕ × ℕ)) (row : Row)
       → IsNumberedOutcome table haystack entry s (best_at span row)
       → IsBestOutcomeOf table haystack (entry ∷ []) s
-      (with_origin_kept (numbered_at (option_map (λ span. (0, span)) span) row))
+      (with_match_start_kept (numbered_at (option_map (λ span. (0, span)) span) row))
   span_of_one None row none =
       λ i k way q j is. none i q j way (own_match table haystack entry s i k way q j is)
   span_of_one (Some span) row (found, is, from, to, held) = (
@@ -48,15 +48,15 @@ module _ (table : List (Place ℕ)) (haystack : Text) (entry s : ℕ) where
           ] in
           by_order (cases_lt found.start i));
     },
-    record { start_told = from; number_told = refl },
+    record { start_reported = from; number_reported = refl },
     to,
     held,
   )
 
   pub outcome_of_one : (outcome : Option Outcome)
-      → IsNumberedOutcome table haystack entry s (match_told outcome)
+      → IsNumberedOutcome table haystack entry s (match_reported outcome)
       → IsBestOutcomeOf table haystack (entry ∷ []) s
-      (with_origin_kept (numbered_told (option_map (λ outcome. (0, outcome)) outcome)))
+      (with_match_start_kept (numbered_reported (option_map (λ outcome. (0, outcome)) outcome)))
   outcome_of_one None none = span_of_one None [] none
   outcome_of_one (Some outcome) some =
       span_of_one (Some (outcome.start, outcome.end)) outcome.slots.items some
@@ -75,7 +75,7 @@ module _ (tree : Tree) (regular : IsRegular tree) (graph : StoredGraph)
       (ending_at end) → IsEndOutcome tree bytes start end
   end_of_tree end found =
       subst (IsEndOutcome tree bytes start) (ended end)
-      (end_told tree regular graph is bytes start inside (ending_at end)
+      (end_reported tree regular graph is bytes start inside (ending_at end)
       (one_end (table_of graph) (chars bytes) graph.start (position_at bytes start)
       (ending_at end) found))
 

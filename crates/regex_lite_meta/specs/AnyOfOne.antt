@@ -17,8 +17,8 @@ HasMatchOfAny table haystack entries s =
 -- the result says whether the pattern with this entry has a match that starts at or after the
 -- offset
 pub record TellsAnyOfOne (table : List (Place ℕ)) (entry : ℕ) (haystack : List ℕ) (start : ℕ)
-    (told : Bool × StepCounts) : Type 0 where
-  pub found : IsTrue told.0
+    (reported : Bool × StepCounts) : Type 0 where
+  pub found : IsTrue reported.0
       ↔ HasMatchOfAny table (chars haystack) (entry ∷ []) (position_at haystack start)
-  pub cost : IsWithinBounds table haystack start told.1
-  pub entered : IsTrue told.0 → 0 < told.1.entered
+  pub cost : IsWithinBounds table haystack start reported.1
+  pub entered : IsTrue reported.0 → 0 < reported.1.entered

@@ -4,11 +4,11 @@ pub mod Intervals
 pub mod Parts
 pub mod Automaton
 pub mod Stored
-pub mod Targets
+pub mod NextStates
 pub mod Extending
 pub mod Scanning
-pub mod Spots
-pub mod Learning
+pub mod Cursors
+pub mod Determinizing
 pub mod Running
 pub mod Starting
-pub mod Remembering
+pub mod Spans

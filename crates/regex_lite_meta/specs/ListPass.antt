@@ -6,7 +6,7 @@ use Rattle.regex_lite_engine.specs.Graph.Places.{Place}
 use Rattle.regex_lite_engine.specs.Graph.StoredList.{StoredList, table_of_list}
 use Rattle.regex_lite_engine.specs.Search.NumberedAnswer.{NoneStartsBefore}
 use Rattle.regex_lite_engine.specs.Search.Offsets.{position_at}
-use Rattle.regex_lite_engine.specs.Search.Standing.{IsHere}
+use Rattle.regex_lite_engine.specs.Search.Here.{IsHere}
 use Rattle.regex_lite_meta.specs.AnyOfOne.{HasMatchOfAny}
 use Rattle.regex_lite_meta.specs.declared.list_matches.pass.ListPass.{ListPass}
 use Rattle.regex_lite_meta.specs.declared.list_matches.status.Status.{Status}
@@ -18,8 +18,8 @@ use Rattle.regex_lite_meta.specs.declared.list_matches.status.Rest.TheVariants a
 -- definitions for the pattern with this entry
 module _ (table : List (Place ℕ)) (bytes : List ℕ) (entry : ℕ) where
   -- the result says whether the pattern has a match that starts at position s or later
-  abbrev pub IsToldFrom : (s : ℕ) → (told : Bool) → Type 0
-  IsToldFrom s told = IsTrue told ↔ HasMatchOfAny table (chars bytes) (entry ∷ []) s
+  abbrev pub IsReportedFrom : (s : ℕ) → (reported : Bool) → Type 0
+  IsReportedFrom s reported = IsTrue reported ↔ HasMatchOfAny table (chars bytes) (entry ∷ []) s
 
   -- no match of the pattern from position s on starts before the offset
   pub record StartsNoSooner (s at : ℕ) : Type 0 where
@@ -28,14 +28,14 @@ module _ (table : List (Place ℕ)) (bytes : List ℕ) (entry : ℕ) where
 
   -- a pass from position s on that has reached position q knows this about the pattern
   abbrev pub PassKnows : (s q : ℕ) → Status → Type 0
-  PassKnows s q (Known told) = IsToldFrom s told
+  PassKnows s q (Known reported) = IsReportedFrom s reported
   PassKnows s q (Open at) =
       StartsNoSooner s at × NoneStartsBefore table (chars bytes) entry s q
   PassKnows s q (Left at) = StartsNoSooner s at
 
   -- what is left to do for the pattern
   abbrev pub IsRest : (s : ℕ) → Rest → Type 0
-  IsRest s (rest.Known told) = IsToldFrom s told
+  IsRest s (rest.Known reported) = IsReportedFrom s reported
   IsRest s (rest.From at) = StartsNoSooner s at
 
 -- the pass has this status for each pattern

@@ -8,15 +8,14 @@ use Rattle.regex_lite_engine.specs.Graph.Places.{Place}
 use Rattle.regex_lite_engine.specs.Graph.StoredList.{StoredList, table_of_list}
 use Rattle.regex_lite_engine.specs.Search.NumberedWords.{AreAnsweredBy, IsEachAnsweredBy}
 use Rattle.regex_lite_engine.specs.Search.Rows.{Row}
-use Rattle.regex_lite_meta.specs.LazyDfa.Remembering.{FindsSpansIn, FindsSpansInList}
-use Rattle.regex_lite_meta.specs.LazyDfa.Remembering.{IsRemembering}
+use Rattle.regex_lite_meta.specs.LazyDfa.Spans.{FindsSpansIn, FindsSpansInList, IsDfaIfSome}
 use Rattle.regex_lite_meta.specs.Slots.{FindsListSlots, FindsSlotsIn, kept_row}
 
 -- the memory serves searches for the pattern with this entry
 pub record SearchesForOne (table : List (Place ℕ)) (entry : ℕ) (searcher : PatternSearcher)
     : Type 0 where
   pub memory : FindsSlotsIn table searcher.memory
-  pub dfa : IsRemembering table (entry ∷ []) (length searcher.memory.cache.best.row)
+  pub dfa : IsDfaIfSome table (entry ∷ []) (length searcher.memory.cache.best.row)
       (option_map (λ dfa. dfa.value) searcher.dfa)
   pub spans : IfSome searcher.spans (λ boxed. FindsSpansIn table entry boxed.value)
 

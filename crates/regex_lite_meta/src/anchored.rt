@@ -10,14 +10,14 @@ ghost use Rattle.regex_lite_engine.specs.Search.AnswerAt.{HasMatchAt};
 ghost use Rattle.regex_lite_engine.specs.Search.Counting.{IsCountable};
 ghost use Rattle.regex_lite_engine.specs.Search.NumberedOutcomes.{IsBestOutcomeTo, IsFoundTo};
 ghost use Rattle.regex_lite_engine.specs.Search.NumberedOutcomes.{best_kept, numbered_at};
-ghost use Rattle.regex_lite_engine.specs.Search.NumberedOutcomes.{with_origin_kept};
+ghost use Rattle.regex_lite_engine.specs.Search.NumberedOutcomes.{with_match_start_kept};
 ghost use Rattle.regex_lite_engine.specs.Search.NumberedWords.{AreAnsweredBy, IsEachAnsweredBy};
 ghost use Rattle.regex_lite_engine.specs.Search.Offsets.{position_at, search_start};
 ghost use Rattle.regex_lite_engine.specs.Search.Outcomes.{HasCost, IsOutcomeAt};
 
 use regex_lite_engine::pikevm::anchored::run_anchored;
-use regex_lite_engine::pikevm::beginning::Origin;
 use regex_lite_engine::pikevm::cache::{Cache, restart};
+use regex_lite_engine::pikevm::thread_start::MatchStart;
 use regex_lite_engine::search::outcome::Outcome;
 use regex_lite_engine::search::patterns::Anchored;
 use regex_lite_engine::steps::no_steps;
@@ -42,13 +42,13 @@ pub fn search_anchored<const WHOLE: bool>(
     slots: usize,
 ) -> Result<(Option<Outcome>, Steps), AllocError>
     requires { (length haystack.now < start) ⊎ IsCharBoundary haystack.now start }
-    ensures found { IfOk result (λ told. (tree : Tree) → IsRegular tree
-        → IsGraphOf tree graph.now → IsOutcomeAt WHOLE tree haystack.now start told.0) }
-    ensures slots { IfOk result (λ told. IfSome told.0
+    ensures found { IfOk result (λ reported. (tree : Tree) → IsRegular tree
+        → IsGraphOf tree graph.now → IsOutcomeAt WHOLE tree haystack.now start reported.0) }
+    ensures slots { IfOk result (λ reported. IfSome reported.0
         (λ outcome. length outcome.slots.items ≡ slots)) }
-    ensures cost { IfOk result (λ told. (tree : Tree) → IsGraphOf tree graph.now
-        → HasCost tree haystack.now start told.1) }
-    ensures entered { IfOk result (λ told. IfSome told.0 (λ _. 0 < told.1.entered)) }
+    ensures cost { IfOk result (λ reported. (tree : Tree) → IsGraphOf tree graph.now
+        → HasCost tree haystack.now start reported.1) }
+    ensures entered { IfOk result (λ reported. IfSome reported.0 (λ _. 0 < reported.1.entered)) }
 {
     if start > haystack.len() {
         return Ok((None, no_steps()));
@@ -72,12 +72,12 @@ pub fn search_any_anchored<const WHOLE: bool>(
     start: usize,
 ) -> Result<(bool, Steps), AllocError>
     requires { (length haystack.now < start) ⊎ IsCharBoundary haystack.now start }
-    ensures found { IfOk result (λ told. (tree : Tree) → IsRegular tree
-        → IsGraphOf tree graph.now → (IsTrue told.0
+    ensures found { IfOk result (λ reported. (tree : Tree) → IsRegular tree
+        → IsGraphOf tree graph.now → (IsTrue reported.0
         ↔ HasMatchAt WHOLE tree (chars haystack.now) (search_start haystack.now start))) }
-    ensures cost { IfOk result (λ told. (tree : Tree) → IsGraphOf tree graph.now
-        → HasCost tree haystack.now start told.1) }
-    ensures entered { IfOk result (λ told. IsTrue told.0 → 0 < told.1.entered) }
+    ensures cost { IfOk result (λ reported. (tree : Tree) → IsGraphOf tree graph.now
+        → HasCost tree haystack.now start reported.1) }
+    ensures entered { IfOk result (λ reported. IsTrue reported.0 → 0 < reported.1.entered) }
 {
     if start > haystack.len() {
         return Ok((false, no_steps()));
@@ -90,11 +90,11 @@ pub fn search_any_anchored<const WHOLE: bool>(
 /// there. It is found in this cache, whose row has its slots. If EARLIEST, the result only says
 /// whether there is a match. If WHOLE, only matches that end where the haystack ends count.
 pub(crate) fn find_anchored<P: Anchored, const EARLIEST: bool, const WHOLE: bool>(
-    cache: &mut Cache<Origin>,
+    cache: &mut Cache<MatchStart>,
     patterns: &mut P,
     haystack: &str,
     start: usize,
-) -> Option<(Origin, usize)>
+) -> Option<(MatchStart, usize)>
     requires boundary { IsCharBoundary haystack.now start }
     requires between { IsBetween (P.table patterns.old) cache.old }
     requires countable { IsCountable (P.table patterns.old) }
@@ -122,7 +122,7 @@ pub(crate) fn find_word_at(
     ensures { (table : List (Place ℕ)) (entries : List ℕ) → AreAnsweredBy table entries words.now
         → IsEachAnsweredBy table entries words.now
         → IsBestOutcomeTo table (chars haystack.now) entries (position_at haystack.now start)
-        (position_at haystack.now start) (with_origin_kept (numbered_at result [])) }
+        (position_at haystack.now start) (with_match_start_kept (numbered_at result [])) }
 {
     let bytes = haystack.as_bytes();
     if !words.may_stand(bytes, start) {

@@ -16,13 +16,13 @@
 //! ahead need nothing of their own. A step also starts all patterns while there is no match, so it
 //! is the same wherever it is taken. Characters, not bytes, are mapped to classes that no state of
 //! the NFA distinguishes (`classes`), and the end of the haystack is one more class. A transition
-//! takes four bytes (`Target`): where the row of its state begins, the number of that state, and an
-//! `Effect`, which says whether the transition is special.
+//! takes four bytes (`NextState`): where the row of its state begins, the number of that state, and
+//! an `TransitionKind`, which says whether the transition is special.
 //!
 //! A search begins in a cached start state, one for each look-behind context, and follows
 //! transitions by offset and row alone (`onward`). `scan` handles special ones, and asks the
 //! prefilter at the start state. Where a transition isn't cached, the PikeVM goes on (`find`), and
-//! `learn` looks up the state that it comes to by a hash (`lookup`), or adds it.
+//! `determinize` looks up the state that it comes to by a hash (`lookup`), or adds it.
 //!
 //! # Where a match starts
 //!
@@ -58,20 +58,20 @@ pub(crate) mod automaton;
 mod begin;
 pub(crate) mod boundaries;
 mod build;
+mod capacity;
 pub(crate) mod classes;
+pub(crate) mod cursor;
+pub(crate) mod determinize;
 pub(crate) mod find;
-pub(crate) mod idle;
-pub(crate) mod learn;
 pub(crate) mod list_spans;
 pub(crate) mod lookup;
 mod onward;
 mod part;
 pub(crate) mod reach;
-mod room;
 pub(crate) mod run;
 pub(crate) mod scan;
 pub(crate) mod single;
+pub(crate) mod skip;
 pub(crate) mod spans;
-pub(crate) mod spot;
 pub(crate) mod start_states;
 pub(crate) mod state;

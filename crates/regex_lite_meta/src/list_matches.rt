@@ -56,13 +56,13 @@ pub fn search_each(
     start: usize,
 ) -> Result<(Vec<bool>, Steps), AllocError>
     requires { (length haystack.now < start) ⊎ IsCharBoundary haystack.now start }
-    ensures found { IfOk result (λ told. (trees : List Tree) → AreRegularPatterns trees
+    ensures found { IfOk result (λ reported. (trees : List Tree) → AreRegularPatterns trees
         → IsGraphOfList trees list.now → TellsWhich trees (chars haystack.now)
-        (search_start haystack.now start) told.0.items) }
-    ensures cost { IfOk result (λ told. (trees : List Tree) → IsGraphOfList trees list.now
-        → HasCostOfList trees haystack.now start told.1) }
-    ensures entered { IfOk result (λ told. (k : ℕ)
-        → IsTrue (slice_index_or told.0.items k false) → 0 < told.1.entered) }
+        (search_start haystack.now start) reported.0.items) }
+    ensures cost { IfOk result (λ reported. (trees : List Tree) → IsGraphOfList trees list.now
+        → HasCostOfList trees haystack.now start reported.1) }
+    ensures entered { IfOk result (λ reported. (k : ℕ)
+        → IsTrue (slice_index_or reported.0.items k false) → 0 < reported.1.entered) }
 {
     let mut matched = vec![in alloc; false; list.len()]?;
     if start > haystack.len() || list.len() == 0 {
@@ -88,9 +88,9 @@ pub fn search_each_uncounted(
     start: usize,
 ) -> Result<Vec<bool>, AllocError>
     requires { (length haystack.now < start) ⊎ IsCharBoundary haystack.now start }
-    ensures { IfOk result (λ told. (trees : List Tree) → AreRegularPatterns trees
+    ensures { IfOk result (λ reported. (trees : List Tree) → AreRegularPatterns trees
         → IsGraphOfList trees list.now → TellsWhich trees (chars haystack.now)
-        (search_start haystack.now start) told.items) }
+        (search_start haystack.now start) reported.items) }
 {
     if start <= haystack.len() {
         if let Some(words) = list.words() {
@@ -118,9 +118,9 @@ fn search_words(
 ) -> Result<Vec<bool>, AllocError>
     requires boundary { IsCharBoundary haystack.now start }
     requires each { IsEachAnsweredBy (table_of_list list.now) list.now.entries words.now }
-    ensures { IfOk result (λ told. (trees : List Tree) → AreRegularPatterns trees
+    ensures { IfOk result (λ reported. (trees : List Tree) → AreRegularPatterns trees
         → IsGraphOfList trees list.now → TellsWhich trees (chars haystack.now)
-        (search_start haystack.now start) told.items) }
+        (search_start haystack.now start) reported.items) }
 {
     let mut matched = vec![in alloc; false; list.len()]?;
     words.which_stand(haystack.as_bytes(), start, &mut matched);
@@ -139,9 +139,9 @@ fn search_in_one_pass(
     start: usize,
 ) -> Result<Vec<bool>, AllocError>
     requires { IsCharBoundary haystack.now start }
-    ensures { IfOk result (λ told. (trees : List Tree) → AreRegularPatterns trees
+    ensures { IfOk result (λ reported. (trees : List Tree) → AreRegularPatterns trees
         → IsGraphOfList trees list.now → TellsWhich trees (chars haystack.now)
-        (search_start haystack.now start) told.items) }
+        (search_start haystack.now start) reported.items) }
 {
     let mut matched = vec![in alloc; false; list.len()]?;
     let mut pass = ListPass::new(alloc, list)?;

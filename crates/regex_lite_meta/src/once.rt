@@ -16,7 +16,7 @@ ghost use Rattle.regex_lite_engine.specs.Search.Offsets.{search_start};
 ghost use Rattle.regex_lite_engine.specs.Search.Outcomes.{IsOutcome, IsEndOutcome, HasCost};
 ghost use Rattle.regex_lite_engine.specs.Search.Outcomes.{HasCostOfList, IsOutcomeOfList};
 
-use crate::lazy_dfa::single::list::{search_any_remembering, search_list_remembering};
+use crate::lazy_dfa::single::list::{search_any_by_dfa, search_list_by_dfa};
 use crate::list_searcher::GraphListSearcher;
 use crate::one::{search_any_one, search_one, search_shortest_one};
 use crate::strategy::{Searched, SpanSearch, Strategy, Wanted, choose};
@@ -42,13 +42,13 @@ pub fn search(
     slots: usize,
 ) -> Result<(Option<Outcome>, Steps), AllocError>
     requires { (length haystack.now < start) ⊎ IsCharBoundary haystack.now start }
-    ensures found { IfOk result (λ told. (tree : Tree) → IsRegular tree
-        → IsGraphOf tree graph.now → IsOutcome tree haystack.now start told.0) }
-    ensures slots { IfOk result (λ told. IfSome told.0
+    ensures found { IfOk result (λ reported. (tree : Tree) → IsRegular tree
+        → IsGraphOf tree graph.now → IsOutcome tree haystack.now start reported.0) }
+    ensures slots { IfOk result (λ reported. IfSome reported.0
         (λ outcome. length outcome.slots.items ≡ slots)) }
-    ensures cost { IfOk result (λ told. (tree : Tree) → IsGraphOf tree graph.now
-        → HasCost tree haystack.now start told.1) }
-    ensures entered { IfOk result (λ told. IfSome told.0 (λ _. 0 < told.1.entered)) }
+    ensures cost { IfOk result (λ reported. (tree : Tree) → IsGraphOf tree graph.now
+        → HasCost tree haystack.now start reported.1) }
+    ensures entered { IfOk result (λ reported. IfSome reported.0 (λ _. 0 < reported.1.entered)) }
 {
     if start > haystack.len() {
         return Ok((None, no_steps()));
@@ -72,12 +72,12 @@ pub fn search_any(
     start: usize,
 ) -> Result<(bool, Steps), AllocError>
     requires { (length haystack.now < start) ⊎ IsCharBoundary haystack.now start }
-    ensures found { IfOk result (λ told. (tree : Tree) → IsRegular tree
-        → IsGraphOf tree graph.now → (IsTrue told.0
+    ensures found { IfOk result (λ reported. (tree : Tree) → IsRegular tree
+        → IsGraphOf tree graph.now → (IsTrue reported.0
         ↔ HasMatchFrom tree (chars haystack.now) (search_start haystack.now start))) }
-    ensures cost { IfOk result (λ told. (tree : Tree) → IsGraphOf tree graph.now
-        → HasCost tree haystack.now start told.1) }
-    ensures entered { IfOk result (λ told. IsTrue told.0 → 0 < told.1.entered) }
+    ensures cost { IfOk result (λ reported. (tree : Tree) → IsGraphOf tree graph.now
+        → HasCost tree haystack.now start reported.1) }
+    ensures entered { IfOk result (λ reported. IsTrue reported.0 → 0 < reported.1.entered) }
 {
     if start > haystack.len() {
         return Ok((false, no_steps()));
@@ -101,11 +101,11 @@ pub fn search_shortest(
     start: usize,
 ) -> Result<(Option<usize>, Steps), AllocError>
     requires { (length haystack.now < start) ⊎ IsCharBoundary haystack.now start }
-    ensures found { IfOk result (λ told. (tree : Tree) → IsRegular tree
-        → IsGraphOf tree graph.now → IsEndOutcome tree haystack.now start told.0) }
-    ensures cost { IfOk result (λ told. (tree : Tree) → IsGraphOf tree graph.now
-        → HasCost tree haystack.now start told.1) }
-    ensures entered { IfOk result (λ told. IfSome told.0 (λ _. 0 < told.1.entered)) }
+    ensures found { IfOk result (λ reported. (tree : Tree) → IsRegular tree
+        → IsGraphOf tree graph.now → IsEndOutcome tree haystack.now start reported.0) }
+    ensures cost { IfOk result (λ reported. (tree : Tree) → IsGraphOf tree graph.now
+        → HasCost tree haystack.now start reported.1) }
+    ensures entered { IfOk result (λ reported. IfSome reported.0 (λ _. 0 < reported.1.entered)) }
 {
     if start > haystack.len() {
         return Ok((None, no_steps()));
@@ -131,13 +131,13 @@ pub fn search_list(
     slots: usize,
 ) -> Result<(Option<(usize, Outcome)>, Steps), AllocError>
     requires { (length haystack.now < start) ⊎ IsCharBoundary haystack.now start }
-    ensures found { IfOk result (λ told. (trees : List Tree) → AreRegularPatterns trees
-        → IsGraphOfList trees list.now → IsOutcomeOfList trees haystack.now start told.0) }
-    ensures slots { IfOk result (λ told. IfSome told.0
+    ensures found { IfOk result (λ reported. (trees : List Tree) → AreRegularPatterns trees
+        → IsGraphOfList trees list.now → IsOutcomeOfList trees haystack.now start reported.0) }
+    ensures slots { IfOk result (λ reported. IfSome reported.0
         (λ found. length found.1.slots.items ≡ slots)) }
-    ensures cost { IfOk result (λ told. (trees : List Tree) → IsGraphOfList trees list.now
-        → HasCostOfList trees haystack.now start told.1) }
-    ensures entered { IfOk result (λ told. IfSome told.0 (λ _. 0 < told.1.entered)) }
+    ensures cost { IfOk result (λ reported. (trees : List Tree) → IsGraphOfList trees list.now
+        → HasCostOfList trees haystack.now start reported.1) }
+    ensures entered { IfOk result (λ reported. IfSome reported.0 (λ _. 0 < reported.1.entered)) }
 {
     if start > haystack.len() {
         return Ok((None, no_steps()));
@@ -147,14 +147,14 @@ pub fn search_list(
         return Ok((first_of_list(found), steps));
     }
     if slots == 0 {
-        if let Some(told) = list.search_words(alloc, haystack, start) {
-            return Ok(told);
+        if let Some(reported) = list.search_words(alloc, haystack, start) {
+            return Ok(reported);
         }
     }
     let searched = Searched::several(list);
     let left = haystack.len() - start;
     match choose(&searched, Wanted::Match { start }, slots, left) {
-        Strategy::LazyDfa => search_list_remembering(list, alloc, haystack, start),
+        Strategy::LazyDfa => search_list_by_dfa(list, alloc, haystack, start),
         // With slots a lazy DFA would find the match and another search its slots: together they
         // may exceed the bound on the places that are tried.
         _ => list.search(alloc, haystack, start, slots),
@@ -177,15 +177,15 @@ pub fn search_list_uncounted(
     slots: usize,
 ) -> Result<Option<(usize, Outcome)>, AllocError>
     requires { (length haystack.now < start) ⊎ IsCharBoundary haystack.now start }
-    ensures found { IfOk result (λ told. (trees : List Tree) → AreRegularPatterns trees
-        → IsGraphOfList trees list.now → IsOutcomeOfList trees haystack.now start told) }
-    ensures slots { IfOk result (λ told. IfSome told
+    ensures found { IfOk result (λ reported. (trees : List Tree) → AreRegularPatterns trees
+        → IsGraphOfList trees list.now → IsOutcomeOfList trees haystack.now start reported) }
+    ensures slots { IfOk result (λ reported. IfSome reported
         (λ found. length found.1.slots.items ≡ slots)) }
 {
     let left = haystack.len().saturating_sub(start);
     let Some((by, pairs)) = span_first_in(list, start, slots, left) else {
-        let (told, _) = search_list(list, alloc, haystack, start, slots)?;
-        return Ok(told);
+        let (reported, _) = search_list(list, alloc, haystack, start, slots)?;
+        return Ok(reported);
     };
     let mut searcher = GraphListSearcher::span_first(alloc, list, slots, by, pairs)?;
     let Some((number, (from, end))) = searcher.search(haystack, start) else {
@@ -216,12 +216,12 @@ pub fn search_list_any(
     start: usize,
 ) -> Result<(bool, Steps), AllocError>
     requires { (length haystack.now < start) ⊎ IsCharBoundary haystack.now start }
-    ensures found { IfOk result (λ told. (trees : List Tree) → AreRegularPatterns trees
-        → IsGraphOfList trees list.now → (IsTrue told.0
+    ensures found { IfOk result (λ reported. (trees : List Tree) → AreRegularPatterns trees
+        → IsGraphOfList trees list.now → (IsTrue reported.0
         ↔ AnyMatchesFrom trees (chars haystack.now) (search_start haystack.now start))) }
-    ensures cost { IfOk result (λ told. (trees : List Tree) → IsGraphOfList trees list.now
-        → HasCostOfList trees haystack.now start told.1) }
-    ensures entered { IfOk result (λ told. IsTrue told.0 → 0 < told.1.entered) }
+    ensures cost { IfOk result (λ reported. (trees : List Tree) → IsGraphOfList trees list.now
+        → HasCostOfList trees haystack.now start reported.1) }
+    ensures entered { IfOk result (λ reported. IsTrue reported.0 → 0 < reported.1.entered) }
 {
     if start > haystack.len() {
         return Ok((false, no_steps()));
@@ -234,7 +234,7 @@ pub fn search_list_any(
     }
     let left = haystack.len() - start;
     match choose(&Searched::several(list), Wanted::Earliest, 0, left) {
-        Strategy::LazyDfa => search_any_remembering(list, alloc, haystack, start),
+        Strategy::LazyDfa => search_any_by_dfa(list, alloc, haystack, start),
         _ => list.search_any(alloc, haystack, start),
     }
 }

@@ -11,12 +11,12 @@ ghost use Rattle.regex_lite_engine.specs.Search.OutcomeOfOne.{TellsEndOfOne, Tel
 ghost use Rattle.regex_lite_engine.specs.Search.Starts.{DoWordsAnswer};
 ghost use Rattle.regex_lite_meta.specs.AnyOfOne.{TellsAnyOfOne};
 
-use crate::lazy_dfa::single::one::{search_remembering, search_shortest_remembering};
+use crate::lazy_dfa::single::one::{search_by_dfa, search_shortest_by_dfa};
 use crate::strategy::{Searched, Strategy, Wanted, choose};
 use regex_lite_engine::Steps;
-use regex_lite_engine::pikevm::beginning::Unkept;
 use regex_lite_engine::pikevm::cache::{Cache, cache_for};
 use regex_lite_engine::pikevm::run::run;
+use regex_lite_engine::pikevm::thread_start::NoStart;
 use regex_lite_engine::search::one_pattern::OnePattern;
 use regex_lite_engine::search::outcome::Outcome;
 use regex_lite_engine::steps::no_steps;
@@ -38,8 +38,8 @@ pub(crate) fn search_one(
         haystack.now start slots) }
 {
     if slots == 0 {
-        if let Some(told) = pattern.search_words(alloc, haystack, start) {
-            return Ok(told);
+        if let Some(reported) = pattern.search_words(alloc, haystack, start) {
+            return Ok(reported);
         }
     }
     let left = haystack.len() - start;
@@ -51,7 +51,7 @@ pub(crate) fn search_one(
                 return Ok((None, no_steps()));
             };
             pattern.first = first;
-            search_remembering(pattern, alloc, haystack, first)
+            search_by_dfa(pattern, alloc, haystack, first)
         }
         _ => pattern.search_in_step(alloc, haystack, start, slots),
     }
@@ -94,8 +94,8 @@ pub(crate) fn search_shortest_one(
     ensures { IfOk result (TellsEndOfOne (places_of pattern.old.table.now) pattern.old.entry
         haystack.now start) }
 {
-    if let Some(told) = pattern.search_word_end(haystack, start) {
-        return Ok(told);
+    if let Some(reported) = pattern.search_word_end(haystack, start) {
+        return Ok(reported);
     }
     search_shortest_in_graph(pattern, alloc, haystack, start)
 }
@@ -122,12 +122,12 @@ fn search_shortest_in_graph(
             return Ok((None, no_steps()));
         };
         pattern.first = first;
-        return search_shortest_remembering(pattern, alloc, haystack, first);
+        return search_shortest_by_dfa(pattern, alloc, haystack, first);
     }
     let Some(first) = pattern.first_start(haystack, start) else {
         return Ok((None, no_steps()));
     };
-    let mut cache = cache_for::<Unkept>(alloc, pattern.table, 0)?;
+    let mut cache = cache_for::<NoStart>(alloc, pattern.table, 0)?;
     run::<_, _, true>(&mut cache, pattern, haystack, first.at);
     let Cache { walk, best, .. } = cache;
     Ok((best.end(), walk.steps))

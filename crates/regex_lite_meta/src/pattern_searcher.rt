@@ -4,7 +4,7 @@
 //! log. It is over at the first match that it comes to.
 ghost use Rattle.std.specs.Prelude.{◌≡◌, ◌∷◌, ◌↔◌, [], IfOk, IfSome, IsCharBoundary, IsTrue, chars};
 ghost use Rattle.std.specs.Prelude.{length};
-ghost use Rattle.regex_lite_meta.specs.LazyDfa.Remembering.{RemembersFor};
+ghost use Rattle.regex_lite_meta.specs.LazyDfa.Spans.{IsDfaFor};
 ghost use Rattle.regex_lite_meta.specs.Memories.{SearchesForOne};
 ghost use Rattle.regex_lite_engine.specs.Graph.Stored.{places_of};
 ghost use Rattle.regex_lite_engine.specs.Search.Filters.{facts_of};
@@ -22,9 +22,9 @@ use crate::lazy_dfa::single::one::end_of;
 use crate::lazy_dfa::spans::SpanSearcher;
 use crate::slots::SlotCache;
 use crate::strategy::{Searched, Strategy, Wanted, choose};
-use regex_lite_engine::pikevm::beginning::Origin;
 use regex_lite_engine::pikevm::cache::{cache_for, restart};
 use regex_lite_engine::pikevm::run::advance;
+use regex_lite_engine::pikevm::thread_start::MatchStart;
 use regex_lite_engine::search::one_pattern::OnePattern;
 use std::alloc::{AllocError, Global};
 
@@ -136,7 +136,7 @@ impl PatternSearcher {
             return self.memory.find_from(pattern, haystack, first);
         };
         let span = spans.find(pattern, haystack, first)?;
-        self.memory.find_known(pattern, haystack, span)
+        self.memory.find_in_span(pattern, haystack, span)
     }
 
     /// Whether there is a match that starts at or after this offset. The search stops at the first
@@ -203,7 +203,7 @@ impl PatternSearcher {
         pattern: &mut OnePattern<'_>,
         haystack: &str,
         start: usize,
-    ) -> Option<(Origin, usize)>
+    ) -> Option<(MatchStart, usize)>
         requires boundary { IsCharBoundary haystack.now start }
         requires searches { SearchesForOne (places_of pattern.old.table.now) pattern.old.entry
             self.old }
@@ -231,7 +231,7 @@ impl PatternSearcher {
 // Not inlined, so that making a searcher without one doesn't pay for it.
 #[inline(never)]
 fn automaton_for(alloc: Global, pattern: &OnePattern<'_>) -> Option<Box<LazyDfa>>
-    ensures { IfSome result (λ dfa. RemembersFor (places_of pattern.now.table.now)
+    ensures { IfSome result (λ dfa. IsDfaFor (places_of pattern.now.table.now)
         (pattern.now.entry ∷ []) dfa.value) }
 {
     let dfa = LazyDfa::for_one(alloc, pattern)?;

@@ -5,14 +5,14 @@
 //! both find the same, and one pattern between known ends costs less than the slots of all.
 ghost use Rattle.std.specs.Prelude.{◌≡◌, ◌<◌, ℕ, IfOk, IsCharBoundary, Some, chars, false};
 ghost use Rattle.std.specs.Prelude.{length};
-ghost use Rattle.regex_lite_meta.specs.LazyDfa.Scanning.{best_told};
+ghost use Rattle.regex_lite_meta.specs.LazyDfa.Scanning.{best_reported};
 ghost use Rattle.regex_lite_meta.specs.Memories.{SearchesForSeveral, row_of_several};
 ghost use Rattle.regex_lite_meta.specs.Slots.{FindsSlotsIn};
 ghost use Rattle.regex_lite_engine.specs.Graph.StoredList.{table_of_list};
 ghost use Rattle.regex_lite_engine.specs.Search.NumberedOutcomes.{IsBestOutcomeOf, numbered_at};
 ghost use Rattle.regex_lite_engine.specs.Search.NumberedOutcomes.{IsNumberedEndOf, best_kept};
 ghost use Rattle.regex_lite_engine.specs.Search.NumberedOutcomes.{IsAnyTo, IsBestOutcomeTo};
-ghost use Rattle.regex_lite_engine.specs.Search.NumberedOutcomes.{with_origin_kept};
+ghost use Rattle.regex_lite_engine.specs.Search.NumberedOutcomes.{with_match_start_kept};
 ghost use Rattle.regex_lite_engine.specs.Search.Offsets.{position_at};
 ghost use Rattle.regex_lite_engine.specs.Search.Rows.{Row};
 
@@ -20,9 +20,9 @@ use crate::lazy_dfa::list_spans::ListSpanSearcher;
 use crate::slots::SlotCache;
 use crate::strategy::{Searched, SpanSearch, Strategy, Wanted, choose};
 use regex_lite_engine::nfa::list::GraphList;
-use regex_lite_engine::pikevm::beginning::Origin;
 use regex_lite_engine::pikevm::best::numbered;
 use regex_lite_engine::pikevm::cache::cache_for_list;
+use regex_lite_engine::pikevm::thread_start::MatchStart;
 use std::alloc::{AllocError, Global};
 
 /// The memory of searches for several patterns.
@@ -97,7 +97,7 @@ impl<'g> SeveralSearcher<'g> {
         requires searches { SearchesForSeveral graph.now self.old }
         ensures found { IsBestOutcomeOf (table_of_list graph.now) (chars haystack.now)
             graph.now.entries (position_at haystack.now start)
-            (with_origin_kept (numbered_at result (row_of_several self.new))) }
+            (with_match_start_kept (numbered_at result (row_of_several self.new))) }
         ensures searches { SearchesForSeveral graph.now self.new }
         ensures slots { length (row_of_several self.new) ≡ length (row_of_several self.old) }
     {
@@ -122,7 +122,7 @@ impl<'g> SeveralSearcher<'g> {
         requires searches { SearchesForSeveral graph.now self.old }
         ensures found { IsBestOutcomeTo (table_of_list graph.now) (chars haystack.now)
             graph.now.entries (position_at haystack.now start) (position_at haystack.now start)
-            (with_origin_kept (numbered_at result (row_of_several self.new))) }
+            (with_match_start_kept (numbered_at result (row_of_several self.new))) }
         ensures searches { SearchesForSeveral graph.now self.new }
         ensures slots { length (row_of_several self.new) ≡ length (row_of_several self.old) }
     {
@@ -140,7 +140,7 @@ impl<'g> SeveralSearcher<'g> {
         graph: &GraphList,
         haystack: &str,
         start: usize,
-    ) -> Option<(Origin, usize)>
+    ) -> Option<(MatchStart, usize)>
         requires some { 0 < length graph.now.entries }
         requires boundary { IsCharBoundary haystack.now start }
         requires searches { SearchesForSeveral graph.now self.old }
@@ -161,12 +161,12 @@ impl<'g> SeveralSearcher<'g> {
         graph: &GraphList,
         haystack: &str,
         start: usize,
-    ) -> Option<(Origin, usize)>
+    ) -> Option<(MatchStart, usize)>
         requires some { 0 < length graph.now.entries }
         requires boundary { IsCharBoundary haystack.now start }
         requires searches { SearchesForSeveral graph.now self.old }
         ensures found { IsNumberedEndOf (table_of_list graph.now) (chars haystack.now)
-            graph.now.entries (position_at haystack.now start) (best_told result) }
+            graph.now.entries (position_at haystack.now start) (best_reported result) }
         ensures searches { SearchesForSeveral graph.now self.new }
         ensures slots { length (row_of_several self.new) ≡ length (row_of_several self.old) }
     {
@@ -191,21 +191,21 @@ fn find_slots(
     graph: &GraphList,
     memory: &mut SlotCache,
     haystack: &str,
-    found: (Origin, usize),
+    found: (MatchStart, usize),
 ) -> Option<(usize, (usize, usize))>
     requires found { (s : ℕ) × IsBestOutcomeOf (table_of_list graph.now) (chars haystack.now)
-        graph.now.entries s (best_told (Some found)) }
+        graph.now.entries s (best_reported (Some found)) }
     requires finds { FindsSlotsIn (table_of_list graph.now) memory.old }
     ensures found { (s : ℕ) → IsBestOutcomeOf (table_of_list graph.now) (chars haystack.now)
-        graph.now.entries s (best_told (Some found))
+        graph.now.entries s (best_reported (Some found))
         → IsBestOutcomeOf (table_of_list graph.now) (chars haystack.now) graph.now.entries s
-        (with_origin_kept (numbered_at result memory.new.cache.best.row)) }
+        (with_match_start_kept (numbered_at result memory.new.cache.best.row)) }
     ensures finds { FindsSlotsIn (table_of_list graph.now) memory.new }
     ensures width { length memory.new.cache.best.row ≡ length memory.old.cache.best.row }
 {
-    let (origin, end) = found;
-    let number = origin.number as usize;
+    let (match_start, end) = found;
+    let number = match_start.number as usize;
     let mut pattern = graph.pattern(number);
-    let span = memory.find_known(&mut pattern, haystack, (origin.at, end))?;
+    let span = memory.find_in_span(&mut pattern, haystack, (match_start.at, end))?;
     Some((number, span))
 }

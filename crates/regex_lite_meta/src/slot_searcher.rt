@@ -54,7 +54,7 @@ impl SlotSearcher {
         ensures slots { length (found_slots self.new) ≡ length (found_slots self.old) }
     {
         let mut pattern = graph.pattern();
-        let _ = self.memory.find_known(&mut pattern, haystack, span);
+        let _ = self.memory.find_in_span(&mut pattern, haystack, span);
     }
 
     /// The slots of the last match, none of them marked before the first. Slots 2k and 2k + 1 are

@@ -19,10 +19,10 @@ ghost use Rattle.regex_lite_engine.specs.Search.Offsets.{IsOffset, position_at};
 
 use regex_lite_engine::backtrack::short::ShortSearcher;
 use regex_lite_engine::nfa::table::Table;
-use regex_lite_engine::pikevm::beginning::Origin;
 use regex_lite_engine::pikevm::best::{Best, span_of};
 use regex_lite_engine::pikevm::cache::{Cache, cache_for, restart};
 use regex_lite_engine::pikevm::run::advance;
+use regex_lite_engine::pikevm::thread_start::MatchStart;
 use regex_lite_engine::search::here::next_char;
 use regex_lite_engine::search::one_pattern::OnePattern;
 use std::alloc::{AllocError, Global};
@@ -30,7 +30,7 @@ use std::alloc::{AllocError, Global};
 /// The memory of searches for slots. The slots of the last match are in the cache's row.
 #[derive(Drop)]
 pub(crate) struct SlotCache {
-    pub cache: Cache<Origin>,
+    pub cache: Cache<MatchStart>,
     /// The bounded backtracker. It is on the heap, since most searchers have none and are moved
     /// often.
     short: Option<Box<ShortSearcher>>,
@@ -40,7 +40,12 @@ impl SlotCache {
     /// Memory for searches in this table that keep as many slots as this cache, which was made for
     /// the table. Searches with at most `pairs` pairs of a place and an offset use the bounded
     /// backtracker, if there is memory for it.
-    pub(crate) fn new(alloc: Global, cache: Cache<Origin>, table: &Table, pairs: usize) -> SlotCache
+    pub(crate) fn new(
+        alloc: Global,
+        cache: Cache<MatchStart>,
+        table: &Table,
+        pairs: usize,
+    ) -> SlotCache
         ensures finds { IsBetween (places_of table.now) cache → IsCountable (places_of table.now)
             → FindsSlotsIn (places_of table.now) result }
         ensures cache { result.cache ≡ cache }
@@ -51,7 +56,7 @@ impl SlotCache {
     }
 
     /// Sets the row to the slots of the match with this span, which it returns.
-    pub(crate) fn find_known(
+    pub(crate) fn find_in_span(
         &mut self,
         pattern: &mut OnePattern<'_>,
         haystack: &str,
@@ -117,7 +122,7 @@ fn find_short(
     pattern: &OnePattern<'_>,
     haystack: &str,
     span: (usize, usize),
-    best: &mut Best<Origin>,
+    best: &mut Best<MatchStart>,
 ) -> bool
     requires finds { FindsShortSlots (places_of pattern.now.table.now) (length best.old.row)
         short.old }

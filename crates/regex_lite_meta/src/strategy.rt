@@ -63,12 +63,12 @@ pub(crate) const MOST_PAIRS_OF_LINE: usize = 32_768;
 /// three allocations. With 16, loops of `find_at` in long texts whose matches are 20 bytes apart
 /// took up to 1.44 times as many instructions as without a DFA, and with 64 up to 1.03 times. With
 /// 256, a search of 1,000 bytes without a match took up to 1.5 times as many as with 64.
-pub(crate) const TURNS_WITHOUT: u32 = 64;
+pub(crate) const STEPS_BEFORE_DFA: u32 = 64;
 
 /// After this number of consecutive transitions from the start state to itself, the lazy DFA skips
 /// positions at which no match can begin. With 1, words and their endings took 1.06 to 1.25 times
 /// as many instructions; with 64 just as many.
-pub(crate) const MOST_IDLE: u32 = 8;
+pub(crate) const MOST_START_LOOPS: u32 = 8;
 
 /// The greatest number of bytes at which no match can begin that the lazy DFA steps over instead of
 /// skipping. With 0, words and their endings took 1.22 to 1.33 times as many instructions; with 16,
@@ -136,7 +136,7 @@ pub(crate) fn choose(
             let pairs = searched.most_pairs(bytes);
             return Strategy::SpanFirst { by, pairs };
         }
-    } else if searched.pays_to_remember(wanted, bytes) {
+    } else if searched.pays_for_dfa(wanted, bytes) {
         return Strategy::LazyDfa;
     }
     if searched.goes_depth_first(wanted, bytes) {
@@ -167,7 +167,7 @@ impl<'g> Searched<'g> {
     /// character, a lazy DFA for each search costs more than it saves: eight words took 1.22 times
     /// as many.
     #[inline(always)]
-    fn pays_to_remember(&self, wanted: Wanted, bytes: usize) -> bool
+    fn pays_for_dfa(&self, wanted: Wanted, bytes: usize) -> bool
         ensures bytes { IsTrue result → 0 < bytes }
         ensures places { IsTrue result → 0 < length self.now.table.now.places }
     {
@@ -175,7 +175,7 @@ impl<'g> Searched<'g> {
         if bytes < self.long() || self.table.places() == 0 {
             return false;
         }
-        match self.beginning() {
+        match self.selectivity() {
             Selectivity::Often => !(wanted.is_later() && self.goes_depth_first(wanted, bytes)),
             Selectivity::InRange if wanted.is_each() => bytes >= LONG_BETWEEN_MATCHES,
             Selectivity::InRange | Selectivity::Rarely => {
@@ -197,7 +197,7 @@ impl<'g> Searched<'g> {
             return None;
         }
         if self.is_line_by_line(bytes) {
-            return Some(if self.pays_to_remember(wanted, bytes) {
+            return Some(if self.pays_for_dfa(wanted, bytes) {
                 SpanSearch::LazyDfa
             } else {
                 SpanSearch::OrderedSets
@@ -219,7 +219,7 @@ impl<'g> Searched<'g> {
     /// are rare it costs its memory: `\b(q\w+)\b` took 3.0 instead of 2.1.
     fn pays_for_spans(&self) -> bool {
         let is_small = self.table.places() <= self.most_places();
-        is_small && !matches!(self.beginning(), Selectivity::Indexed)
+        is_small && !matches!(self.selectivity(), Selectivity::Indexed)
     }
 
     /// Whether a one-off search for a match uses the bounded backtracker.

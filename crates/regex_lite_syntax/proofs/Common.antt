@@ -77,7 +77,7 @@ pub use Rattle.regex_lite_syntax.specs.Parser.ClassReadings.{EndsOpen, at_once, 
 pub use Rattle.regex_lite_syntax.specs.Parser.ClassReadings.{is_beginning}
 pub use Rattle.regex_lite_syntax.specs.Parser.FaultEnds.{GoesOnFrom}
 pub use Rattle.regex_lite_syntax.specs.Parser.FlagRuns.{EndedFlags, EndsRun, LetterRun}
-pub use Rattle.regex_lite_syntax.specs.Parser.FurtherDigits.{number_on, Reaches}
+pub use Rattle.regex_lite_syntax.specs.Parser.FurtherDigits.{number_on, ReachesNumber}
 pub use Rattle.regex_lite_syntax.specs.Parser.Machine.{Frame, State, first_state, ended, Kind, stop}
 pub use Rattle.regex_lite_syntax.specs.Parser.Machine.{kind_at, Does, Step, LeadsOn, stay, go, bar}
 pub use Rattle.regex_lite_syntax.specs.Parser.Machine.{closing, paren}
@@ -89,16 +89,17 @@ pub use Rattle.regex_lite_syntax.specs.Parser.SetNames.{name_of}
 pub use Rattle.regex_lite_syntax.specs.Parser.States.{frame_of, StepsTo, CanRead, CanReadOn}
 pub use Rattle.regex_lite_syntax.specs.Parser.States.{BeginsCapture, BeginsTooMany}
 pub use Rattle.regex_lite_syntax.specs.Prefilter.Bytes.{StandsBelow, is_among}
-pub use Rattle.regex_lite_syntax.specs.Prefilter.Heads.{Reads, ReadsEach}
-pub use Rattle.regex_lite_syntax.specs.Prefilter.Leaps.{IsReached, NeverPasses}
-pub use Rattle.regex_lite_syntax.specs.Prefilter.ListHeads.{AreEachHeadsOf, IsIndexOf, may_start}
+pub use Rattle.regex_lite_syntax.specs.Prefilter.PrefixSets.{Reads, ReadsEach}
+pub use Rattle.regex_lite_syntax.specs.Prefilter.Shifts.{IsLinked, NeverPasses}
+pub use Rattle.regex_lite_syntax.specs.Prefilter.PrefixIndex.{AreEachPrefixSetsOf, IsIndexOf}
+pub use Rattle.regex_lite_syntax.specs.Prefilter.PrefixIndex.{may_start}
 pub use Rattle.regex_lite_syntax.specs.Prefilter.Pairs.{begins_with_pair, has_pair, in_set}
 pub use Rattle.regex_lite_syntax.specs.Prefilter.Rows.{belongs, column, first_row, goes_on_with}
 pub use Rattle.regex_lite_syntax.specs.Prefilter.Rows.{has, is_in_column, second_row, set_from}
 pub use Rattle.regex_lite_syntax.specs.Prefilter.Rows.{start_row}
-pub use Rattle.regex_lite_syntax.specs.Prefilter.Starts.{BeginsOrPasses, IsUnionOf, IsWider}
-pub use Rattle.regex_lite_syntax.specs.Prefilter.Starts.{MayBegin, begins_with, may_begin}
-pub use Rattle.regex_lite_syntax.specs.Prefilter.Thirds.{in_mask}
+pub use Rattle.regex_lite_syntax.specs.Prefilter.FirstSet.{BeginsOrPasses, IsUnionOf, IsWider}
+pub use Rattle.regex_lite_syntax.specs.Prefilter.FirstSet.{MayBegin, begins_with, may_begin}
+pub use Rattle.regex_lite_syntax.specs.Prefilter.ThirdMasks.{in_mask}
 pub use Rattle.regex_lite_syntax.specs.Prefilter.Words.{IsLetter, NoneStands}
 pub use Rattle.regex_lite_syntax.specs.Prefilter.Words.{StartsWith, word_at}
 pub use Rattle.regex_lite_syntax.specs.Ranges.{in_ranges, next_character, AreRuns, AreRunsOf}
@@ -121,7 +122,7 @@ pub use Rattle.regex_lite_syntax.specs.declared.hir.look.Look.{Look}
 pub use Rattle.regex_lite_syntax.specs.declared.parse.Parser.{Parser}
 pub use Rattle.regex_lite_syntax.specs.declared.parse.bracket.item.Element.{Element}
 pub use Rattle.regex_lite_syntax.specs.declared.parse.fault.Stop.{Stop}
-pub use Rattle.regex_lite_syntax.specs.declared.prefilter.heads.Heads.{Heads}
-pub use Rattle.regex_lite_syntax.specs.declared.prefilter.list_heads.ListHeads.{ListHeads}
-pub use Rattle.regex_lite_syntax.specs.declared.prefilter.starts.Starts.{Starts}
+pub use Rattle.regex_lite_syntax.specs.declared.prefilter.prefixes.PrefixSets.{PrefixSets}
+pub use Rattle.regex_lite_syntax.specs.declared.prefilter.prefix_index.PrefixIndex.{PrefixIndex}
+pub use Rattle.regex_lite_syntax.specs.declared.prefilter.first_set.FirstSet.{FirstSet}
 pub use Rattle.regex_lite_syntax.specs.declared.prefilter.words.letter.Letter.{Letter}

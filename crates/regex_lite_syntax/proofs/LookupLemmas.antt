@@ -63,13 +63,13 @@ mapped_there f xs k x less is =
     ∙ ap (option_map f) (slice_get-get_or xs k x less ∙ ap Some (sym is))
 
 -- what is told of several trees, one after another, is told of the next one too
-pub told_more : {A : Type 0} (Told : Tree → A → Type 0) (trees : List Tree) (list : List A)
-    (tree : Tree) (next : A) → slice_get trees (length list) ≡ Some tree → Told tree next
+pub reported_more : {A : Type 0} (Reported : Tree → A → Type 0) (trees : List Tree) (list : List A)
+    (tree : Tree) (next : A) → slice_get trees (length list) ≡ Some tree → Reported tree next
     → ((number : ℕ) (own : Tree) (found : A) → slice_get trees number ≡ Some own
-    → slice_get list number ≡ Some found → Told own found)
+    → slice_get list number ≡ Some found → Reported own found)
     → (number : ℕ) (own : Tree) (found : A) → slice_get trees number ≡ Some own
-    → slice_get (list ++ next ∷ []) number ≡ Some found → Told own found
-told_more Told trees list tree next there_next told so_far number own found there at =
+    → slice_get (list ++ next ∷ []) number ≡ Some found → Reported own found
+reported_more Reported trees list tree next there_next reported so_far number own found there at =
     elim (cases_lt number (length list)) [
       | inl less ↦ so_far number own found there (before less)
       | inr le ↦ last (omega (arith, le, within, length-append list (next ∷ [])))
@@ -86,11 +86,11 @@ told_more Told trees list tree next there_next told so_far number own found ther
         slice_get-get_or list number found less
         ∙ ap Some (sym (get_or-append list (next ∷ []) found number less) ∙ here)
 
-    last : number ≡ length list → Told own found
+    last : number ≡ length list → Reported own found
     last is =
         let next_is : next ≡ found
         = sym (get_or-append_seam list next [] found)
         ∙ ap (λ n. get_or (list ++ next ∷ []) n found) (sym is) ∙ here in
         let tree_is : tree ≡ own
         = same_some (sym there_next ∙ ap (slice_get trees) (sym is) ∙ there) in
-        subst (Told own) next_is (subst (λ t. Told t next) tree_is told)
+        subst (Reported own) next_is (subst (λ t. Reported t next) tree_is reported)

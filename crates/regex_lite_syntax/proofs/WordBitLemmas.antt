@@ -18,11 +18,11 @@ zero_bit n k =
     ap (λ word. bit_at word (k % 64) == 1) (zero_at n (k / 64))
     ∙ ap (λ bit. bit == 1) (bit_at-zero (k % 64))
 
-told_set : (x y l k : ℕ) → x ≡ 1 → l ≡ k → (x == 1) ≡ ((y == 1) || l == k)
-told_set x y l k set same = grind (arith, nat_tests)
+reported_set : (x y l k : ℕ) → x ≡ 1 → l ≡ k → (x == 1) ≡ ((y == 1) || l == k)
+reported_set x y l k set same = grind (arith, nat_tests)
 
-told_kept : (x y l k : ℕ) → x ≡ y → (l ≡ k → ⊥) → (x == 1) ≡ ((y == 1) || l == k)
-told_kept x y l k kept apart = grind (arith, nat_tests)
+reported_kept : (x y l k : ℕ) → x ≡ y → (l ≡ k → ⊥) → (x == 1) ≡ ((y == 1) || l == k)
+reported_kept x y l k kept apart = grind (arith, nat_tests)
 
 -- bit k is set, and the others are as they were
 module _ (words : List ℕ) (k : ℕ) (inside : k < 64 * length words) where
@@ -52,12 +52,13 @@ module _ (words : List ℕ) (k : ℕ) (inside : k < 64 * length words) where
         ap (λ w. bit_at w (l % 64)) (get_or-set_other words (k / 64) (l / 64) word 0 apart)
   ]
 
-  pub bit_told : (l : ℕ)
+  pub bit_reported : (l : ℕ)
       → (bit_of_words words_with l == 1) ≡ ((bit_of_words words l == 1) || l == k)
-  bit_told l = elim (cases_eq l k) [
+  bit_reported l = elim (cases_eq l k) [
     | inl same ↦
         let set = ap (bit_of_words words_with) same ∙ set_bit in
-        told_set (bit_of_words words_with l) (bit_of_words words l) l k set same
+        reported_set (bit_of_words words_with l) (bit_of_words words l) l k set same
     | inr apart ↦
-        told_kept (bit_of_words words_with l) (bit_of_words words l) l k (other_bit l apart) apart
+        reported_kept (bit_of_words words_with l) (bit_of_words words l) l k (other_bit l apart)
+        apart
   ]

@@ -1,10 +1,10 @@
 -- Where a match can begin, by the next characters.
-pub mod Starts
-pub mod Heads
+pub mod FirstSet
+pub mod PrefixSets
 pub mod Rows
 pub mod Pairs
-pub mod ListHeads
-pub mod Thirds
+pub mod PrefixIndex
+pub mod ThirdMasks
 pub mod Bytes
 -- Words with which matches begin, and how they are found.
 pub mod Words
@@ -13,7 +13,7 @@ pub mod NumberedWords
 pub mod WordLists
 pub mod Spelling
 pub mod WordWalk
-pub mod Leaps
+pub mod Shifts
 pub mod Finders
 pub mod Marks
 -- A word that each match has, and how it is found.

@@ -15,9 +15,11 @@
 //!   rarest letters, which blocks of 32 offsets are compared with (`pair`). Several are found by
 //!   skips over pairs of bytes, as in the algorithm of Wu and Manber: the pair that ends a window
 //!   as long as the shortest word tells how far it may move, and a hash of the first letters leads
-//!   to the words to compare (`leaps`). A letter may stand for both of its cases. A pattern that is
+//!   to the words to compare (`shifts`). A letter may stand for both of its cases. A pattern that
+//! is
 //!   nothing but its words needs no engine.
-//! - [`Heads`]: the first set, and a second set if it has at most 16 ASCII characters. If few bytes
+//! - [`PrefixSets`]: the first set, and a second set if it has at most 16 ASCII characters. If few
+//! bytes
 //!   begin a match, a [`Prefilter`] compares a block of 32 with all of them. It has no branch for a
 //!   byte, so that the compiler uses vectors.
 //! - [`Needed`]: up to four literals of which each match has one, with the set of characters that
@@ -25,7 +27,7 @@
 //!   first possible start. This is used beside heads or short words, and rules out the rest of a
 //!   haystack that has no such literal.
 //!
-//! [`ListHeads`] is an index of several trees: a row of bits for each first and each second
+//! [`PrefixIndex`] is an index of several trees: a row of bits for each first and each second
 //! character, with a bit for each pattern, and a mask of third characters. [`ListWords`] has the
 //! words of a list of which each pattern is nothing but words.
 //!
@@ -34,7 +36,7 @@
 //! Which facts are used is estimated when a pattern is compiled, by the ranks of bytes in common
 //! texts (`frequency`, `gain`). Searches take no samples, so a filter that proves unselective is
 //! not switched off. Only what tells which patterns of a list match has a budget
-//! (`leaps::marking`). Words that begin with few or rare bytes, such as `cat|dog`, are left to the
+//! (`shifts::marking`). Words that begin with few or rare bytes, such as `cat|dog`, are left to the
 //! search for these bytes. An alternation gives a word for each branch, and no word goes on behind
 //! it, nor behind an operator without a fixed number of passes, nor into a class that is no letter
 //! in both cases. So words are not multiplied, and there are 10,000 at most. A needed literal has 8
@@ -45,7 +47,7 @@
 //!
 //! `search/skip.rt` of `regex_lite_engine` skips offsets by it, for both engines and for the lazy
 //! DFA, and `strategy` in `regex_lite_meta` chooses by how matches begin. Read `filter` next, then
-//! `starts`, `heads` and `words`.
+//! `starts`, `prefixes` and `words`.
 ghost use Rattle.std.specs.Prelude.{◌≡◌, ◌≤◌, ◌<◌, ◌+◌, ◌*◌, ℕ, IfSome};
 ghost use Rattle.std.specs.Prelude.{IsTrue, false, true, length, slice_index};
 ghost use Rattle.regex_lite_syntax.specs.declared.prefilter.Prefilter.TheVariants.{
@@ -56,18 +58,18 @@ ghost use Rattle.regex_lite_syntax.specs.declared.prefilter.Prefilter.TheVariant
 };
 ghost use Rattle.regex_lite_syntax.specs.Prefilter.Bytes.{is_among, suits, AreAllBytes};
 ghost use Rattle.regex_lite_syntax.specs.Prefilter.Bytes.{IsPrefilterOf, StandsBelow};
-ghost use Rattle.regex_lite_syntax.specs.Prefilter.Starts.{stops_at};
+ghost use Rattle.regex_lite_syntax.specs.Prefilter.FirstSet.{stops_at};
 
 mod filter;
-mod heads;
-pub mod list_heads;
-mod starts;
+mod first_set;
+pub mod prefix_index;
+mod prefixes;
 pub mod words;
 
 pub use filter::Filter;
-pub use heads::Heads;
-pub use list_heads::ListHeads;
-pub use starts::Starts;
+pub use first_set::FirstSet;
+pub use prefix_index::PrefixIndex;
+pub use prefixes::PrefixSets;
 pub use words::list_words::ListWords;
 pub use words::{Needed, Reach, Words};
 
@@ -86,23 +88,23 @@ pub enum Prefilter {
 
 impl Prefilter {
     /// The prefilter for these heads, if few bytes show that a match may begin.
-    pub(crate) fn of(heads: &Heads) -> Option<Prefilter>
-        ensures { IfSome result (IsPrefilterOf heads.now) }
+    pub(crate) fn of(prefixes: &PrefixSets) -> Option<Prefilter>
+        ensures { IfSome result (IsPrefilterOf prefixes.now) }
     {
-        let Some(second) = &heads.second else {
-            return Prefilter::of_first(&heads.first);
+        let Some(second) = &prefixes.second else {
+            return Prefilter::of_first(&prefixes.first);
         };
-        if heads.first.len() <= 2 {
+        if prefixes.first.len() <= 2 {
             let (mut firsts, mut seconds) = ([0; 2], [0; 2]);
-            if fill(&mut firsts, &heads.first) && fill(&mut seconds, second) {
+            if fill(&mut firsts, &prefixes.first) && fill(&mut seconds, second) {
                 return Some(Prefilter::Pair(firsts, seconds));
             }
         }
-        Prefilter::of_first(&heads.first)
+        Prefilter::of_first(&prefixes.first)
     }
 
     /// The prefilter for these first characters.
-    fn of_first(first: &Starts) -> Option<Prefilter>
+    fn of_first(first: &FirstSet) -> Option<Prefilter>
         ensures { IfSome result (λ filter. (byte after : ℕ) → suits filter byte after ≡ false
             → stops_at first.now byte ≡ false) }
     {
@@ -119,7 +121,7 @@ impl Prefilter {
     }
 
     /// The prefilter for `len` consecutive first characters.
-    fn range_of(first: &Starts, len: u8) -> Option<Prefilter>
+    fn range_of(first: &FirstSet, len: u8) -> Option<Prefilter>
         ensures { IfSome result (λ filter. (byte after : ℕ) → suits filter byte after ≡ false
             → stops_at first.now byte ≡ false) }
     {
@@ -217,7 +219,7 @@ fn has_between(block: &[u8], low: u8, high: u8) -> bool
 
 /// Lists the bytes with which a match can begin, and repeats the first if there is room for more.
 /// Returns whether all of them are listed.
-fn fill(bytes: &mut [u8], starts: &Starts) -> bool
+fn fill(bytes: &mut [u8], starts: &FirstSet) -> bool
     ensures length { length bytes.new ≡ length bytes.old }
     ensures all { result ≡ true → AreAllBytes starts.now bytes.new }
 {
@@ -241,7 +243,7 @@ fn fill(bytes: &mut [u8], starts: &Starts) -> bool
 
 /// Adds those of the sixteen characters of this row, and returns how many there are then, if there
 /// is room for all.
-fn fill_row(bytes: &mut [u8], len: usize, starts: &Starts, row: u8) -> Option<usize>
+fn fill_row(bytes: &mut [u8], len: usize, starts: &FirstSet, row: u8) -> Option<usize>
     requires len { len ≤ length bytes.old }
     requires row { row < 8 }
     requires written { (byte : ℕ) → byte < 16 * row → stops_at starts.now byte ≡ true

@@ -49,8 +49,8 @@ pub gathered : (old new : Output) (held : Option (List ℕ)) (text : List ℕ)
 gathered old new held text still now waits before printed was = record {
   written = was.written;
   appended = was.appended;
-  told = at_false _ _ new.has_failed now
-      (ap (λ x. x ++ text) (MatchBool-at_false _ _ still was.told)
+  reported = at_false _ _ new.has_failed now
+      (ap (λ x. x ++ text) (MatchBool-at_false _ _ still was.reported)
       ∙ append_assoc was.written old.waiting.items text ∙ ap (λ x. was.written ++ x) (sym waits));
 }
 
@@ -61,15 +61,15 @@ pub both_written : (held holds done : Option (List ℕ)) (first second : List �
 both_written held holds done first second true a b = record {
   written = a.written ++ b.written;
   appended = appends_more held holds done a.written b.written a.appended b.appended;
-  told = ap (λ x. x ++ second) a.told ∙ ap (λ x. a.written ++ x) b.told;
+  reported = ap (λ x. x ++ second) a.reported ∙ ap (λ x. a.written ++ x) b.reported;
 }
 both_written held holds done first second false a b = record {
   written = a.written ++ b.written;
   appended = appends_more held holds done a.written b.written a.appended b.appended;
-  told = (
-    b.told.0,
-    ap (λ x. x ++ second) a.told ∙ ap (λ x. a.written ++ x) b.told.1
-        ∙ sym (append_assoc a.written b.written b.told.0),
+  reported = (
+    b.reported.0,
+    ap (λ x. x ++ second) a.reported ∙ ap (λ x. a.written ++ x) b.reported.1
+        ∙ sym (append_assoc a.written b.written b.reported.0),
   );
 }
 
@@ -80,22 +80,22 @@ pub sent : (old new : Output) (held holds : Option (List ℕ)) (text : List ℕ)
 sent old new held holds text true still now empty w before printed was = record {
   written = was.written ++ w.written;
   appended = appends_more before held holds was.written w.written was.appended w.appended;
-  told = at_false _ _ new.has_failed now
-      (ap (λ x. x ++ text) (MatchBool-at_false _ _ still was.told)
+  reported = at_false _ _ new.has_failed now
+      (ap (λ x. x ++ text) (MatchBool-at_false _ _ still was.reported)
       ∙ append_assoc was.written old.waiting.items text
-      ∙ ap (λ x. was.written ++ x) w.told
+      ∙ ap (λ x. was.written ++ x) w.reported
       ∙ sym (append-nil (was.written ++ w.written))
       ∙ ap (λ x. (was.written ++ w.written) ++ x) (sym empty));
 }
 sent old new held holds text false still now empty w before printed was = record {
   written = was.written ++ w.written;
   appended = appends_more before held holds was.written w.written was.appended w.appended;
-  told = at_true _ _ new.has_failed now (
-    w.told.0,
-    ap (λ x. x ++ text) (MatchBool-at_false _ _ still was.told)
+  reported = at_true _ _ new.has_failed now (
+    w.reported.0,
+    ap (λ x. x ++ text) (MatchBool-at_false _ _ still was.reported)
         ∙ append_assoc was.written old.waiting.items text
-        ∙ ap (λ x. was.written ++ x) w.told.1
-        ∙ sym (append_assoc was.written w.written w.told.0),
+        ∙ ap (λ x. was.written ++ x) w.reported.1
+        ∙ sym (append_assoc was.written w.written w.reported.0),
   );
 }
 
@@ -105,16 +105,16 @@ pub finished : (before held holds : Option (List ℕ)) (output : Output) (text :
     → IsPrinted before held output text → IsWritten before holds text all
 finished before held holds output text all still w was =
     subst (λ x. IsWritten before holds x all)
-    (sym (MatchBool-at_false _ _ still was.told))
+    (sym (MatchBool-at_false _ _ still was.reported))
     (both_written before held holds was.written output.waiting.items all
-    (record { written = was.written; appended = was.appended; told = refl }) w)
+    (record { written = was.written; appended = was.appended; reported = refl }) w)
 
 pub unflushed : (before holds done : Option (List ℕ)) (text : List ℕ) → Keeps holds done
     → IsWritten before holds text true → IsWritten before done text false
 unflushed before holds done text kept w = record {
   written = w.written;
   appended = appends_kept before holds done w.written w.appended kept;
-  told = ([], w.told ∙ sym (append-nil w.written));
+  reported = ([], w.reported ∙ sym (append-nil w.written));
 }
 
 -- what a failed call answers is not `Ok`
@@ -144,7 +144,7 @@ pub nothing_printed : (output : Output) (held : Option (List ℕ)) → output.wa
 nothing_printed output held empty still = record {
   written = [];
   appended = appends_nothing held;
-  told = at_false _ _ output.has_failed still (sym empty);
+  reported = at_false _ _ output.has_failed still (sym empty);
 }
 
 -- a text was refused where it was to wait, and so all further ones are dropped
@@ -153,9 +153,9 @@ pub refused : (old new : Output) (held : Option (List ℕ)) (text : List ℕ)
 refused old new held text still now before printed was = record {
   written = was.written;
   appended = was.appended;
-  told = at_true _ _ new.has_failed now (
+  reported = at_true _ _ new.has_failed now (
     old.waiting.items ++ text,
-    ap (λ x. x ++ text) (MatchBool-at_false _ _ still was.told)
+    ap (λ x. x ++ text) (MatchBool-at_false _ _ still was.reported)
         ∙ append_assoc was.written old.waiting.items text,
   );
 }
@@ -174,5 +174,5 @@ waits_or_refused old new held text still waits = by_end new.has_failed refl
 -- what a call that didn't fail ensures
 pub on_ok : {T E : Type 0} (result : Result T E) (P : Type 0) → is_err result ≡ false
     → OnOk result P → P
-on_ok (Ok value) P is told = told
-on_ok (Err error) P is told = cc
+on_ok (Ok value) P is reported = reported
+on_ok (Err error) P is reported = cc

@@ -11,7 +11,7 @@ use Rattle.regex_lite.specs.Expression.{Expression}
 use Rattle.regex_lite.specs.MatchList.{IsAnswerOf}
 use Rattle.regex_lite.specs.Search.Answer.{Found, IsFound}
 use Rattle.regex_lite.specs.Searches.{MatchesFrom}
-use Rattle.regex_lite.proofs.AgreementLemmas.{answer_told}
+use Rattle.regex_lite.proofs.AgreementLemmas.{answer_reported}
 use Rattle.regex_lite.proofs.AnsweredLemmas.{from_start}
 use Rattle.rxl.specs.declared.command.Question.TheVariants.{Replace}
 use Rattle.rxl.specs.Printed.{IsReplacedText, Prints}
@@ -22,7 +22,7 @@ first_shows : (re : Expression) (haystack : List ℕ) (matches : List Found)
     → IsAnswerOf re (chars haystack) 0 None ⊎ MatchesFrom re haystack 0
 first_shows re haystack [] none = inl none
 first_shows re haystack (found ∷ list) ((tree, given, is), others) =
-    inr ((answer_told re haystack 0 (λ own first told. Unit {0}) (Some (tt {0})) (
+    inr ((answer_reported re haystack 0 (λ own first reported. Unit {0}) (Some (tt {0})) (
       tree,
       given,
       (

@@ -1,3 +1,3 @@
 -- lemmas that several proofs here share
-pub mod ToldLemmas
+pub mod ReportedLemmas
 pub mod FaultLemmas

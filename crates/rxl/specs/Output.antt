@@ -9,7 +9,7 @@ use Rattle.rxl.specs.declared.output.Output.{Output}
 pub record IsWritten (before now : Option (List ℕ)) (text : List ℕ) (all : Bool) : Type 0 where
   pub written : List ℕ
   pub appended : Appends before now written
-  pub told : MatchBool all (text ≡ written) (Begins written text)
+  pub reported : MatchBool all (text ≡ written) (Begins written text)
 
 -- since the writer held the first bytes this text was printed: it was written except for what is
 -- buffered, or, once a write failed, a prefix of it was written
@@ -17,7 +17,7 @@ pub record IsPrinted (before now : Option (List ℕ)) (output : Output) (text : 
     : Type 0 where
   pub written : List ℕ
   pub appended : Appends before now written
-  pub told : MatchBool output.has_failed (Begins written text)
+  pub reported : MatchBool output.has_failed (Begins written text)
       (text ≡ written ++ output.waiting.items)
 
 -- the text was printed after whatever was printed before

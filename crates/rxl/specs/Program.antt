@@ -55,7 +55,7 @@ IsAnswered args input found text =
 pub record IsDone (args : List (Bor (List ℕ))) (input before now : Option (List ℕ)) (status : ℕ)
     : Type 0 where
   pub found : Bool
-  pub told : status ≡ status_of found
+  pub reported : status ≡ status_of found
   pub text : List ℕ
   pub answered : IsAnswered args input found text
   pub written : Appends before now text

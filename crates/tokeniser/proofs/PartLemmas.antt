@@ -21,15 +21,15 @@ module _ (law : AnchoredListSearchesFindAt) (rules : List Expression) (text : Li
   pub nothing_at : TellsMatchAtOfList rules text at None
       → (number : ℕ) (rule : Expression) → slice_get rules number ≡ Some rule
       → ¬ (MatchesAt rule text at)
-  nothing_at told number rule is matches = (finds.none.0 told).1 (number, rule, is, matches)
+  nothing_at reported number rule is matches = (finds.none.0 reported).1 (number, rule, is, matches)
 
-  module _ (number : ℕ) (m : Match) (told : TellsMatchAtOfList rules text at (Some (number, m)))
+  module _ (number : ℕ) (m : Match) (reported : TellsMatchAtOfList rules text at (Some (number, m)))
     where
       there : IsMatchAtOfList rules text at number (span_of_match m)
-      there = ((finds.found number m).0 told).2
+      there = ((finds.found number m).0 reported).2
 
       haystack : haystack_of_match m ≡ text
-      haystack = ((finds.found number m).0 told).1
+      haystack = ((finds.found number m).0 reported).1
 
       pub begins : (span_of_match m).0 ≡ at
       begins = there.at.begins

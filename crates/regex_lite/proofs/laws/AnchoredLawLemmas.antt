@@ -59,8 +59,8 @@ module _ (haystack : List ℕ) (utf8 : IsUtf8 haystack) (start : ℕ)
   found_at_start re m =
       let by_start = (search_at haystack utf8 start can re).match m in
       let first = (finds_first haystack utf8 start can re).found m in (
-        λ told.
-            let from = by_start.0 told in
+        λ reported.
+            let from = by_start.0 reported in
             let own = first.0 from.0 in
             (own.0, at_start haystack start (span_of_match m) re own.1 from.1),
         λ (same, is). by_start.1 (
@@ -87,8 +87,8 @@ module _ (haystack : List ℕ) (utf8 : IsUtf8 haystack) (start : ℕ)
   finds_at re = record {
     found = found_at_start re;
     none = none_at_start re;
-    groups = λ groups told.
-        let from = ((search_at haystack utf8 start can re).groups groups).0 told in
+    groups = λ groups reported.
+        let from = ((search_at haystack utf8 start can re).groups groups).0 reported in
         at_start haystack start (whole_span groups) re
         ((finds_first haystack utf8 start can re).groups groups from.0) from.1;
     no_groups = none_at_start re;
@@ -102,8 +102,8 @@ module _ (haystack : List ℕ) (utf8 : IsUtf8 haystack) (start : ℕ)
   found_at_start_of_list list number m =
       let by_start = (list_search_at haystack utf8 start can list).match (number, m) in
       let first = (list_finds_first haystack utf8 start can list).found number m in (
-        λ told.
-            let from = by_start.0 told in
+        λ reported.
+            let from = by_start.0 reported in
             let own = first.0 from.0 in (
               own.0,
               own.1,
@@ -137,8 +137,9 @@ module _ (haystack : List ℕ) (utf8 : IsUtf8 haystack) (start : ℕ)
   list_finds_at list = record {
     found = found_at_start_of_list list;
     none = none_at_start_of_list list;
-    groups = λ number groups told.
-        let from = ((list_search_at haystack utf8 start can list).groups (number, groups)).0 told in
+    groups = λ number groups reported.
+        let from = ((list_search_at haystack utf8 start can list).groups (number, groups)).0
+        reported in
         at_start_of_list haystack start (whole_span groups) list number
         ((list_finds_first haystack utf8 start can list).groups number groups from.0) from.1;
     no_groups = none_at_start_of_list list;

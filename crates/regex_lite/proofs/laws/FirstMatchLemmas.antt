@@ -26,7 +26,7 @@ use Rattle.regex_lite.specs.OffsetLaws.{FindsFirst}
 use Rattle.regex_lite.specs.Searches.{CanStartAt}
 use Rattle.regex_lite.proofs.OneTreeLemmas.{one_tree}
 use Rattle.regex_lite.proofs.string.FoundLemmas.{group_0}
-use Rattle.regex_lite.proofs.string.ToldLemmas.{same_pair}
+use Rattle.regex_lite.proofs.string.ReportedLemmas.{same_pair}
 use Rattle.regex_lite_engine.proofs.laws.answer.AnswerAtLemmas.{way_of_found}
 
 -- a match of the pattern's tree ends in the haystack
@@ -165,23 +165,23 @@ module _ (haystack : List ℕ) (utf8 : IsUtf8 haystack) (start : ℕ)
           ),
         )
 
-    told_first : (m : Match) → TellsMatch re haystack start (Some m)
+    reported_first : (m : Match) → TellsMatch re haystack start (Some m)
         → (haystack_of_match m ≡ haystack) × IsFirstMatch re haystack start (span_of_match m)
-    told_first m (tree, given, (found, is, of)) = (
+    reported_first m (tree, given, (found, is, of)) = (
       of.haystack,
       subst (IsFirstMatch re haystack start) (sym of.span) (first_found tree found given is),
     )
 
-    first_told : (m : Match) → haystack_of_match m ≡ haystack
+    first_reported : (m : Match) → haystack_of_match m ≡ haystack
         → IsFirstMatch re haystack start (span_of_match m)
         → TellsMatch re haystack start (Some m)
-    first_told m same first =
+    first_reported m same first =
         let own = found_first (span_of_match m) first in
         (own.0, own.1, (own.2.0, own.2.1, record { haystack = same; span = own.2.2 }))
 
-    told_none : TellsMatch re haystack start None
+    reported_none : TellsMatch re haystack start None
         ↔ (HasTree re.flags (chars re.pattern) × MatchesNowhere re haystack start)
-    told_none = (
+    reported_none = (
       λ (tree, given, none). ((tree, given), nowhere tree given none),
       λ ((tree, given), none). (
         tree,
@@ -217,10 +217,10 @@ module _ (haystack : List ℕ) (utf8 : IsUtf8 haystack) (start : ℕ)
     pub finds_first : FindsFirst re haystack start
     finds_first = record {
       matches = from_on;
-      found = λ m. (told_first m, λ (same, first). first_told m same first);
-      none = told_none;
+      found = λ m. (reported_first m, λ (same, first). first_reported m same first);
+      none = reported_none;
       groups = groups_first;
-      no_groups = told_none;
+      no_groups = reported_none;
     }
 
 pub from_the_start : (re : Expression) (haystack : List ℕ) → IsUtf8 haystack

@@ -105,20 +105,20 @@ module _ (haystack : List ℕ) (utf8 : IsUtf8 haystack) (start : ℕ)
             same,
           )
 
-  told_first : (number : ℕ) (m : Match) → TellsMatchOfList list haystack start (Some (number, m))
-      → HaveTrees list × (haystack_of_match m ≡ haystack)
+  reported_first : (number : ℕ) (m : Match) → TellsMatchOfList list haystack start
+      (Some (number, m)) → HaveTrees list × (haystack_of_match m ≡ haystack)
       × IsFirstOfList list haystack start number (span_of_match m)
-  told_first number m (trees, given, (found, is, of)) = (
+  reported_first number m (trees, given, (found, is, of)) = (
     (trees, given),
     of.haystack,
     subst (IsFirstOfList list haystack start number) (sym of.span)
         (first_of_trees trees number found given is),
   )
 
-  first_told : (number : ℕ) (m : Match) → HaveTrees list → haystack_of_match m ≡ haystack
+  first_reported : (number : ℕ) (m : Match) → HaveTrees list → haystack_of_match m ≡ haystack
       → IsFirstOfList list haystack start number (span_of_match m)
       → TellsMatchOfList list haystack start (Some (number, m))
-  first_told number m (trees, given) same first =
+  first_reported number m (trees, given) same first =
       let own = found_of_trees trees number (span_of_match m) given first in
       (trees, given, (own.0, own.1, record { haystack = same; span = own.2 }))
 
@@ -150,9 +150,9 @@ module _ (haystack : List ℕ) (utf8 : IsUtf8 haystack) (start : ℕ)
     λ ((trees, given), some). (trees, given, any_of_trees trees given some),
   )
 
-  told_none : TellsMatchOfList list haystack start None
+  reported_none : TellsMatchOfList list haystack start None
       ↔ (HaveTrees list × NoneMatches list haystack start)
-  told_none = (
+  reported_none = (
     λ (trees, given, none). (
       (trees, given),
       λ number re there at later matches.
@@ -184,10 +184,10 @@ module _ (haystack : List ℕ) (utf8 : IsUtf8 haystack) (start : ℕ)
   list_finds_first = record {
     matches = from_on;
     found = λ number m. (
-      told_first number m,
-      λ (has, same, first). first_told number m has same first,
+      reported_first number m,
+      λ (has, same, first). first_reported number m has same first,
     );
-    none = told_none;
+    none = reported_none;
     groups = groups_first;
-    no_groups = told_none;
+    no_groups = reported_none;
   }

@@ -25,22 +25,22 @@ use Rattle.regex_lite.proofs.laws.ReplacedLemmas.{span_is}
 use Rattle.regex_lite.proofs.string.FoundLemmas.{group_0}
 use Rattle.regex_lite_engine.proofs.laws.answer.AnswerAtLemmas.{way_of_found}
 
-module _ (haystack : List ℕ) (start : ℕ) (groups : Groups) (told : Match) where
+module _ (haystack : List ℕ) (start : ℕ) (groups : Groups) (reported : Match) where
   abbrev IsGroup0 : Type 0
-  IsGroup0 = (haystack_of_match told ≡ groups.haystack)
-      × (group_span groups 0 ≡ Some (span_of_match told))
+  IsGroup0 = (haystack_of_match reported ≡ groups.haystack)
+      × (group_span groups 0 ≡ Some (span_of_match reported))
 
-  group_0_told : (re : Expression) → TellsGroups re haystack start (Some groups)
-      → TellsMatch re haystack start (Some told) → IsGroup0
-  group_0_told re (tree, given, (found, is, are)) (other, given_too, (f, is_too, of)) = (
+  group_0_reported : (re : Expression) → TellsGroups re haystack start (Some groups)
+      → TellsMatch re haystack start (Some reported) → IsGroup0
+  group_0_reported re (tree, given, (found, is, are)) (other, given_too, (f, is_too, of)) = (
     of.haystack ∙ sym are.haystack,
-    sym (same_whole re haystack start (Some told) (Some groups) refl
+    sym (same_whole re haystack start (Some reported) (Some groups) refl
         (other, given_too, (f, is_too, of)) (tree, given, (found, is, are))),
   )
 
-  match_told : (re : Expression) → TellsGroups re haystack start (Some groups) → IsGroup0
-      → TellsMatch re haystack start (Some told)
-  match_told re (tree, given, (found, is, are)) (same, span) =
+  match_reported : (re : Expression) → TellsGroups re haystack start (Some groups) → IsGroup0
+      → TellsMatch re haystack start (Some reported)
+  match_reported re (tree, given, (found, is, are)) (same, span) =
       let whole = ap (λ spans. span_at spans 0) are.spans
       ∙ group_0 (chars haystack) tree found (captures_len tree) (re.flags, _, given)
       (way_of_found tree (chars haystack) (search_start haystack start) found is) (omega arith) in (
@@ -53,21 +53,21 @@ module _ (haystack : List ℕ) (start : ℕ) (groups : Groups) (told : Match) wh
         ),
       )
 
-  list_group_0_told : (list : List Expression) (number other : ℕ)
+  list_group_0_reported : (list : List Expression) (number other : ℕ)
       → TellsGroupsOfList list haystack start (Some (number, groups))
-      → TellsMatchOfList list haystack start (Some (other, told))
-      → (other ≡ number) × (haystack_of_match told ≡ groups.haystack)
-      × (group_span groups 0 ≡ Some (span_of_match told))
-  list_group_0_told list number other (trees, given, (found, is, are))
+      → TellsMatchOfList list haystack start (Some (other, reported))
+      → (other ≡ number) × (haystack_of_match reported ≡ groups.haystack)
+      × (group_span groups 0 ≡ Some (span_of_match reported))
+  list_group_0_reported list number other (trees, given, (found, is, are))
       (others, given_too, (f, is_too, of)) =
-      let both = same_found list haystack start (Some (other, told)) (Some (number, groups)) refl
-      (others, given_too, (f, is_too, of)) (trees, given, (found, is, are)) in
+      let both = same_found list haystack start (Some (other, reported)) (Some (number, groups))
+      refl (others, given_too, (f, is_too, of)) (trees, given, (found, is, are)) in
       (same_some both.0, of.haystack ∙ sym are.haystack, sym both.1)
 
-  list_match_told : (list : List Expression) (number : ℕ)
+  list_match_reported : (list : List Expression) (number : ℕ)
       → TellsGroupsOfList list haystack start (Some (number, groups)) → IsGroup0
-      → TellsMatchOfList list haystack start (Some (number, told))
-  list_match_told list number (trees, given, (found, is, are)) (same, span) =
+      → TellsMatchOfList list haystack start (Some (number, reported))
+  list_match_reported list number (trees, given, (found, is, are)) (same, span) =
       let whole = ap (λ spans. span_at spans 0) are.spans
       ∙ group_0 (chars haystack) is.tree found (captures_len is.tree)
       (pattern_tree list trees given number is.tree is.numbered)
@@ -82,17 +82,17 @@ module _ (haystack : List ℕ) (start : ℕ) (groups : Groups) (told : Match) wh
       )
 
 pub match_is_group_0 : MatchIsGroup0
-match_is_group_0 re haystack start groups tells told = (
-  group_0_told haystack start groups told re tells,
-  match_told haystack start groups told re tells,
+match_is_group_0 re haystack start groups tells reported = (
+  group_0_reported haystack start groups reported re tells,
+  match_reported haystack start groups reported re tells,
 )
 
 pub list_match_is_group_0 : ListMatchIsGroup0
-list_match_is_group_0 list haystack start number groups tells other told = (
-  list_group_0_told haystack start groups told list number other tells,
+list_match_is_group_0 list haystack start number groups tells other reported = (
+  list_group_0_reported haystack start groups reported list number other tells,
   λ (same, there, span).
-      subst (λ n. TellsMatchOfList list haystack start (Some (n, told))) (sym same)
-      (list_match_told haystack start groups told list number tells (there, span)),
+      subst (λ n. TellsMatchOfList list haystack start (Some (n, reported))) (sym same)
+      (list_match_reported haystack start groups reported list number tells (there, span)),
 )
 
 spans_of_groups : (re : Expression) (hay : List ℕ) (limit ended : Option ℕ) (found : List Found)

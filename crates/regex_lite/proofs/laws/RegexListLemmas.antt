@@ -25,7 +25,7 @@ use Rattle.regex_lite.specs.Searches.{IsWithinCost}
 use Rattle.regex_lite.proofs.AgreementLemmas.{same_truth}
 use Rattle.regex_lite.proofs.string.FoundLemmas.{group_0}
 use Rattle.regex_lite.proofs.ListBuildLemmas.{one_list, pattern_tree, regular_trees}
-use Rattle.regex_lite.proofs.string.ListToldLemmas.{list_answer_told}
+use Rattle.regex_lite.proofs.string.ListReportedLemmas.{list_answer_reported}
 use Rattle.regex_lite_engine.proofs.laws.answer.AnswerAtLemmas.{way_of_found}
 
 -- a list of one is accepted where its pattern is
@@ -92,50 +92,50 @@ module _ (re : Expression) (haystack : List ℕ) (start : ℕ) where
             → HasTree (tree ∷ []) (suc number) other → ⊥
         gone tree number other there = cc
 
-    to_list : (told : Option A) → TellsAnswer says re haystack start told
-        → TellsAnswerOfList says (re ∷ []) haystack start (of_the_only told)
+    to_list : (reported : Option A) → TellsAnswer says re haystack start reported
+        → TellsAnswerOfList says (re ∷ []) haystack start (of_the_only reported)
     to_list None (tree, given, none) =
         (tree ∷ [], (given, tt), alone_in_list tree (chars haystack) s None none)
-    to_list (Some told) (tree, given, (found, is, of_found)) =
+    to_list (Some reported) (tree, given, (found, is, of_found)) =
         let listed = alone_in_list tree (chars haystack) s (Some found) is in
         let same = (numbered tree 0 found listed).1 in
-        let says_so = subst (λ t. says t found told) (sym same) of_found in
+        let says_so = subst (λ t. says t found reported) (sym same) of_found in
         (tree ∷ [], (given, tt), (found, listed, says_so))
 
-    from_list : (told : Option A)
-        → TellsAnswerOfList says (re ∷ []) haystack start (of_the_only told)
-        → TellsAnswer says re haystack start told
+    from_list : (reported : Option A)
+        → TellsAnswerOfList says (re ∷ []) haystack start (of_the_only reported)
+        → TellsAnswer says re haystack start reported
     from_list None tells =
         let own = as_alone (λ trees. IsAnswerOfList trees (chars haystack) s None) tells in
         (own.0, own.1, alone_by_itself own.0 (chars haystack) s None own.2)
-    from_list (Some told) tells =
+    from_list (Some reported) tells =
         let own = as_alone (λ trees. (found : Found)
         × (answer : IsFoundInList trees (chars haystack) s 0 found)
-        × says answer.tree found told) tells in
+        × says answer.tree found reported) tells in
         let tree = (numbered own.0 0 own.2.0 own.2.1).1 in (
           own.0,
           own.1,
           (
             own.2.0,
             alone_by_itself own.0 (chars haystack) s (Some own.2.0) own.2.1,
-            subst (λ t. says t own.2.0 told) tree own.2.2,
+            subst (λ t. says t own.2.0 reported) tree own.2.2,
           ),
         )
 
-    only_told : (told : Option (ℕ × A)) → TellsAnswerOfList says (re ∷ []) haystack start told
-        → (own : Option A) × (told ≡ of_the_only own)
-    only_told None tells = (None, refl)
-    only_told (Some (number, told)) (trees, given, (found, is, of_found)) =
+    only_reported : (reported : Option (ℕ × A)) → TellsAnswerOfList says (re ∷ []) haystack start
+        reported → (own : Option A) × (reported ≡ of_the_only own)
+    only_reported None tells = (None, refl)
+    only_reported (Some (number, reported)) (trees, given, (found, is, of_found)) =
         let own = only_tree trees given in
         let zeroth = (numbered own.0 number found
         (subst (λ all. IsFoundInList all (chars haystack) s number found) own.2 is)).0 in
-        (Some told, ap (λ n. Some (n, told)) zeroth)
+        (Some reported, ap (λ n. Some (n, reported)) zeroth)
 
     tells_alike : TellsAlike (TellsAnswer says re haystack start)
         (TellsAnswerOfList says (re ∷ []) haystack start)
     tells_alike = record {
-      same = λ told. (to_list told, from_list told);
-      only = only_told;
+      same = λ reported. (to_list reported, from_list reported);
+      only = only_reported;
     }
 
   -- these steps are within what as many places and tries allow
@@ -192,16 +192,16 @@ module _ (haystack : List ℕ) (start : ℕ) where
   none_any (trees, given, (number, tree, there, has)) =
       no_place number tree (subst (λ all. HasTree all number tree) (no_tree trees given) there)
 
-  none_told : {A : Type 0} (says : Tree → Found → A → Type 0) (told : Option (ℕ × A))
-      → TellsAnswerOfList says [] haystack start told ↔ (told ≡ None)
-  none_told {A} says told =
-      (to_none told, λ is. subst (TellsAnswerOfList says [] haystack start) (sym is) none)
+  none_reported : {A : Type 0} (says : Tree → Found → A → Type 0) (reported : Option (ℕ × A))
+      → TellsAnswerOfList says [] haystack start reported ↔ (reported ≡ None)
+  none_reported {A} says reported =
+      (to_none reported, λ is. subst (TellsAnswerOfList says [] haystack start) (sym is) none)
     where
       none : TellsAnswerOfList says [] haystack start None
       none = ([], tt, none_match (chars haystack) (search_start haystack start))
 
-      to_none : (told : Option (ℕ × A)) → TellsAnswerOfList says [] haystack start told
-          → told ≡ None
+      to_none : (reported : Option (ℕ × A)) → TellsAnswerOfList says [] haystack start reported
+          → reported ≡ None
       to_none None tells = refl
       to_none (Some (number, own)) (trees, given, (found, is, of_found)) =
           absurd (no_place number is.tree
@@ -218,17 +218,18 @@ module _ (haystack : List ℕ) (start : ℕ) where
   pub nothing : FindsNothing haystack start
   nothing = record {
     is_match = none_any;
-    match = none_told (λ tree. IsMatchOf haystack);
-    groups = none_told (λ tree. AreGroupsOf tree haystack);
+    match = none_reported (λ tree. IsMatchOf haystack);
+    groups = none_reported (λ tree. AreGroupsOf tree haystack);
     cost = none_tried;
   }
 
 -- the searches of a list agree
 module _ (list : List Expression) (haystack : List ℕ) (start : ℕ) where
   abbrev AgreeOnSpan : (m : Option (ℕ × Match)) (groups : Option (ℕ × Groups)) → Type 0
-  AgreeOnSpan m groups = (option_map (λ told. told.0) m ≡ option_map (λ told. told.0) groups)
-      × (option_map (λ told. span_of_match told.1) m
-      ≡ option_and_then (λ told. group_span told.1 0) groups)
+  AgreeOnSpan m groups =
+      (option_map (λ reported. reported.0) m ≡ option_map (λ reported. reported.0) groups)
+      × (option_map (λ reported. span_of_match reported.1) m ≡ option_and_then
+      (λ reported. group_span reported.1 0) groups)
 
   -- what is found is group 0, of one pattern
   pub same_found : (m : Option (ℕ × Match)) (groups : Option (ℕ × Groups))
@@ -245,8 +246,9 @@ module _ (list : List Expression) (haystack : List ℕ) (start : ℕ) where
       let both = same_some (one_list_answer trees (chars haystack) (regular_trees list trees given)
       s (Some (number, f)) (Some (other, g)) is moved) in
       let tree_given = pattern_tree list trees_too given_too other is_too.tree is_too.numbered in
-      let span = λ (told : ℕ × Found). offsets (chars haystack) (told.1.start, told.1.end) in (
-        ap (λ (told : ℕ × Found). Some told.0) both,
+      let span = λ (reported : ℕ × Found). offsets (chars haystack)
+      (reported.1.start, reported.1.end) in (
+        ap (λ (reported : ℕ × Found). Some reported.0) both,
         ap Some (of.span ∙ ap span both)
             ∙ sym (ap (λ all. span_at all 0) are.spans
             ∙ group_0 (chars haystack) is_too.tree g (captures_len is_too.tree) tree_given
@@ -256,15 +258,15 @@ module _ (list : List Expression) (haystack : List ℕ) (start : ℕ) where
   pub agree_on_list : (found : Bool) (m : Option (ℕ × Match)) (groups : Option (ℕ × Groups))
       → (IsTrue found ↔ AnyMatches list haystack start) → TellsMatchOfList list haystack start m
       → TellsGroupsOfList list haystack start groups → AgreeOnList found m groups
-  agree_on_list found m groups told tells_match tells_groups =
-      let by_match = list_answer_told list haystack start _ m tells_match in
-      let by_groups = list_answer_told list haystack start _ groups tells_groups in
+  agree_on_list found m groups reported tells_match tells_groups =
+      let by_match = list_answer_reported list haystack start _ m tells_match in
+      let by_groups = list_answer_reported list haystack start _ groups tells_groups in
       let Matching : Type 0 = AnyMatches list haystack start in
       let alike = same_truth (is_some m) (is_some groups) Matching by_match by_groups in
       let both = same_found m groups alike tells_match tells_groups in
       record {
-        with_match = same_truth (is_some m) found Matching by_match told;
-        with_groups = same_truth (is_some groups) found Matching by_groups told;
+        with_match = same_truth (is_some m) found Matching by_match reported;
+        with_groups = same_truth (is_some groups) found Matching by_groups reported;
         number = both.0;
         whole = both.1;
       }

@@ -22,21 +22,21 @@ use Rattle.regex_lite.proofs.string.LawfulLemmas.{regex_lawful}
 
 -- what is returned of an anchored search is what the search from there on returns
 module _ {A : Type 0} (says : Tree → Found → A → Type 0) (re : Expression) (haystack : List ℕ)
-    (start : ℕ) (told : A) where
-  pub told_from : TellsAnswerAt false says re haystack start (Some told)
-      → TellsAnswer says re haystack start (Some told)
-  told_from (tree, given, (found, is, so)) = (
+    (start : ℕ) (reported : A) where
+  pub reported_from : TellsAnswerAt false says re haystack start (Some reported)
+      → TellsAnswer says re haystack start (Some reported)
+  reported_from (tree, given, (found, is, so)) = (
     tree,
     given,
     (found, found_from tree (chars haystack) (search_start haystack start) found is, so),
   )
 
   -- and where an anchored search finds something, that is what the search from there on finds
-  pub told_there : OfTree re (λ tree. (found : Found)
+  pub reported_there : OfTree re (λ tree. (found : Found)
       × IsFoundAt false tree (chars haystack) (search_start haystack start) found)
-      → TellsAnswer says re haystack start (Some told)
-      → TellsAnswerAt false says re haystack start (Some told)
-  told_there (other, given_too, (there, is_there)) (tree, given, (found, is, so)) =
+      → TellsAnswer says re haystack start (Some reported)
+      → TellsAnswerAt false says re haystack start (Some reported)
+  reported_there (other, given_too, (there, is_there)) (tree, given, (found, is, so)) =
       let p = search_start haystack start in
       let same = same_some ((regex_lawful re (chars haystack)).one p (Some found) (Some there)
       (tree, given, is) (other, given_too, found_from other (chars haystack) p there is_there)) in
@@ -91,38 +91,40 @@ module _ (haystack : List ℕ) (utf8 : IsUtf8 haystack) (start : ℕ)
         (own.1, tt, subst (λ i. Matches h tree i own.1) here own.3),
       )
 
-  pub has_told_there : (re : Expression) (found : Bool)
+  pub has_reported_there : (re : Expression) (found : Bool)
       → OfTree re (λ tree. IsTrue found ↔ HasMatchAt false tree h s)
       → IsTrue found ↔ MatchesAt re haystack start
-  has_told_there re found (tree, given, told) = (
-    λ yes_found. matched_there re tree given (told.0 yes_found),
-    λ matches. told.1 (tree_matched_there re tree given matches),
+  has_reported_there re found (tree, given, reported) = (
+    λ yes_found. matched_there re tree given (reported.0 yes_found),
+    λ matches. reported.1 (tree_matched_there re tree given matches),
   )
 
   -- what is returned of an anchored search is what the search from there on returns, where its span
   -- starts there
   module _ {A : Type 0} (says : Tree → Found → A → Type 0) (span_of : A → ℕ × ℕ)
-      (of_found : (tree : Tree) (p : ℕ) (found : Found) (told : A) → IsPatternTree tree
-      → IsFound tree h p found → says tree found told
-      → span_of told ≡ offsets h (found.start, found.end)) (re : Expression) where
-    pub told_by_start : (told : A) → TellsAnswerAt false says re haystack start (Some told)
-        ↔ (TellsAnswer says re haystack start (Some told) × ((span_of told).0 ≡ start))
-    told_by_start told = (
-      λ at. (told_from says re haystack start told at, starts at),
+      (of_found : (tree : Tree) (p : ℕ) (found : Found) (reported : A) → IsPatternTree tree
+      → IsFound tree h p found → says tree found reported
+      → span_of reported ≡ offsets h (found.start, found.end)) (re : Expression) where
+    pub reported_by_start : (reported : A) → TellsAnswerAt false says re haystack start
+        (Some reported) ↔ (TellsAnswer says re haystack start (Some reported)
+        × ((span_of reported).0 ≡ start))
+    reported_by_start reported = (
+      λ at. (reported_from says re haystack start reported at, starts at),
       λ (from, same). back from same,
     )
       where
-        starts : TellsAnswerAt false says re haystack start (Some told) → (span_of told).0 ≡ start
+        starts : TellsAnswerAt false says re haystack start (Some reported) → (span_of reported).0
+            ≡ start
         starts (tree, given, (found, is, so)) =
-            ap (λ (span : ℕ × ℕ). span.0) (of_found tree s found told (re.flags, _, given)
+            ap (λ (span : ℕ × ℕ). span.0) (of_found tree s found reported (re.flags, _, given)
             (found_from tree h s found is) so)
             ∙ ap (offset h) is.start
             ∙ start_is (subst (IsPosition h) is.start is.of_way.inside)
 
-        back : TellsAnswer says re haystack start (Some told) → (span_of told).0 ≡ start
-            → TellsAnswerAt false says re haystack start (Some told)
+        back : TellsAnswer says re haystack start (Some reported) → (span_of reported).0 ≡ start
+            → TellsAnswerAt false says re haystack start (Some reported)
         back (tree, given, (found, is, so)) same =
-            let span = of_found tree s found told (re.flags, _, given) is so in
+            let span = of_found tree s found reported (re.flags, _, given) is so in
             let here = only_start found.start is.inside
             (sym (ap (λ (span : ℕ × ℕ). span.0) span) ∙ same) in
             (tree, given, (found, found_at tree h s found is (omega (arith, here)), so))
@@ -139,10 +141,10 @@ module _ (haystack : List ℕ) (utf8 : IsUtf8 haystack) (start : ℕ)
 
   pub search_at : (re : Expression) → IsSearchAt re haystack start
   search_at re = record {
-    match = told_by_start (λ tree. IsMatchOf haystack) span_of_match
+    match = reported_by_start (λ tree. IsMatchOf haystack) span_of_match
         (λ tree p found m given is of. of.span) re;
-    groups = told_by_start (λ tree. AreGroupsOf tree haystack) whole_span whole_of_found re;
-    locations = λ spans. told_by_start (λ tree found m. IsMatchOf haystack found m
+    groups = reported_by_start (λ tree. AreGroupsOf tree haystack) whole_span whole_of_found re;
+    locations = λ spans. reported_by_start (λ tree found m. IsMatchOf haystack found m
         × (spans ≡ spans_from h found.marks 0 (length spans))) span_of_match
         (λ tree p found m given is of. of.0.span) re;
   }

@@ -14,7 +14,7 @@ use Rattle.regex_lite_engine.proofs.laws.PatternTreeLemmas.{regular_tree}
 use Rattle.regex_lite_engine.proofs.laws.groups.SpanLemmas.{groups_inside}
 use Rattle.regex_lite_syntax.proofs.OptionLemmas.{same_some}
 use Rattle.regex_lite.proofs.string.SlotLemmas.{none_kept, some_kept}
-use Rattle.regex_lite.proofs.string.FoundLemmas.{slots_told, length_spans}
+use Rattle.regex_lite.proofs.string.FoundLemmas.{slots_reported, length_spans}
 use Rattle.regex_lite.proofs.string.FoundLemmas.{groups_lie, group_0, enough_texts}
 use Rattle.regex_lite.proofs.string.GroupNameLemmas.{are_names}
 
@@ -58,19 +58,20 @@ module _ (haystack : Text) (tree : Tree) (found : Found) (given : IsPatternTree 
   held_all (slot ∷ kept) span held same = held
 
   -- these are all slots of the match, where as many were kept as its groups need
-  each_told : (kept : List (Option ℕ)) (span : ℕ × ℕ) → length kept ≡ kept_slots (captures_len tree)
-      → HasSlots haystack kept found.marks → span ≡ offsets haystack (found.start, found.end)
-      → AreAllSlots haystack tree found (all_slots kept span)
-  each_told [] span len held same =
+  each_reported : (kept : List (Option ℕ)) (span : ℕ × ℕ) → length kept ≡ kept_slots
+      (captures_len tree) → HasSlots haystack kept found.marks → span ≡ offsets haystack
+      (found.start, found.end) → AreAllSlots haystack tree found (all_slots kept span)
+  each_reported [] span len held same =
       (whole_slots span same, none_kept (captures_len tree) len (omega arith))
-  each_told (slot ∷ kept) span len held same =
+  each_reported (slot ∷ kept) span len held same =
       (held, some_kept (captures_len tree) (length kept) len)
 
-  pub all_told : (kept slots : List (Option ℕ)) (span : ℕ × ℕ) → slots ≡ all_slots kept span
+  pub all_reported : (kept slots : List (Option ℕ)) (span : ℕ × ℕ) → slots ≡ all_slots kept span
       → length kept ≡ kept_slots (captures_len tree) → HasSlots haystack kept found.marks
       → span ≡ offsets haystack (found.start, found.end) → AreAllSlots haystack tree found slots
-  all_told kept slots span filled enough held same =
-      subst (AreAllSlots haystack tree found) (sym filled) (each_told kept span enough held same)
+  all_reported kept slots span filled enough held same =
+      subst (AreAllSlots haystack tree found) (sym filled)
+      (each_reported kept span enough held same)
 
 -- a regex shares what is known of the groups of its tree
 pub built_shares : (compiled : Compiled) (built : IsBuilt compiled)
@@ -89,7 +90,7 @@ module _ (bytes : List ℕ) (utf8 : IsUtf8 bytes) (tree : Tree) (given : IsPatte
   spans = spans_from (chars bytes) found.marks 0 (captures_len tree)
 
   spans_are : spans_of slots ≡ spans
-  spans_are = slots_told (chars bytes) found.marks slots 0 (captures_len tree) 0 refl all.1
+  spans_are = slots_reported (chars bytes) found.marks slots 0 (captures_len tree) 0 refl all.1
       (λ k slot at. all.0 k slot at
       ∙ ap (λ n. option_map (offset (chars bytes)) (found.marks n)) (omega arith))
 

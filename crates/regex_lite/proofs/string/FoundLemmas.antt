@@ -37,25 +37,27 @@ zipped haystack (Some a) None = refl
 zipped haystack (Some a) (Some b) = refl
 
 -- the spans that slots hold are those of the marks
-pub slots_told : (haystack : Text) (marks : Marks) (slots : List (Option ℕ)) (first count at : ℕ)
-    → at ≡ 2 * first → length slots ≡ 2 * count
+pub slots_reported : (haystack : Text) (marks : Marks) (slots : List (Option ℕ))
+    (first count at : ℕ) → at ≡ 2 * first → length slots ≡ 2 * count
     → ((k : ℕ) (slot : Option ℕ) → slice_get slots k ≡ Some slot
     → slot ≡ option_map (offset haystack) (marks (at + k)))
     → spans_of slots ≡ spans_from haystack marks first count
-slots_told haystack marks [] first zero at start len told = refl
-slots_told haystack marks [] first (suc count) at start len told = absurd (omega (arith, len))
-slots_told haystack marks (slot ∷ []) first zero at start len told = absurd (omega (arith, len))
-slots_told haystack marks (slot ∷ []) first (suc count) at start len told =
+slots_reported haystack marks [] first zero at start len reported = refl
+slots_reported haystack marks [] first (suc count) at start len reported = absurd
+    (omega (arith, len))
+slots_reported haystack marks (slot ∷ []) first zero at start len reported = absurd
+    (omega (arith, len))
+slots_reported haystack marks (slot ∷ []) first (suc count) at start len reported =
     absurd (omega (arith, len))
-slots_told haystack marks (from ∷ to ∷ slots) first zero at start len told =
+slots_reported haystack marks (from ∷ to ∷ slots) first zero at start len reported =
     absurd (omega (arith, len))
-slots_told haystack marks (from ∷ to ∷ slots) first (suc count) at start len told =
+slots_reported haystack marks (from ∷ to ∷ slots) first (suc count) at start len reported =
     let a : at + 0 ≡ 2 * first = omega (arith, start) in
     let b : at + 1 ≡ 2 * first + 1 = omega (arith, start) in
-    let start_is = told 0 from refl ∙ ap (λ n. option_map (offset haystack) (marks n)) a in
-    let end_is = told 1 to refl ∙ ap (λ n. option_map (offset haystack) (marks n)) b in
-    let later = slots_told haystack marks slots (suc first) count (at + 2)
-    (omega (arith, start)) (omega (arith, len)) (λ k slot is. told (suc (suc k)) slot is
+    let start_is = reported 0 from refl ∙ ap (λ n. option_map (offset haystack) (marks n)) a in
+    let end_is = reported 1 to refl ∙ ap (λ n. option_map (offset haystack) (marks n)) b in
+    let later = slots_reported haystack marks slots (suc first) count (at + 2)
+    (omega (arith, start)) (omega (arith, len)) (λ k slot is. reported (suc (suc k)) slot is
     ∙ ap (λ n. option_map (offset haystack) (marks n)) (omega arith)) in
     ap (λ own. own ∷ spans_of slots)
     (rw (start_is, end_is) (zipped haystack (marks (2 * first)) (marks (2 * first + 1))))
@@ -78,12 +80,12 @@ length_spans haystack marks first (suc count) =
     omega (arith, length_spans haystack marks (suc first) count)
 
 -- each group that took part has a text
-texts_told : (bytes : List ℕ) (marks : Marks) (first count : ℕ)
+texts_reported : (bytes : List ℕ) (marks : Marks) (first count : ℕ)
     → taking_part marks first count
     ≡ length (filter_map (option_map (text_at bytes)) (spans_from (chars bytes) marks first count))
-texts_told bytes marks first zero = refl
-texts_told bytes marks first (suc count) =
-    each (span marks first) refl (texts_told bytes marks (suc first) count)
+texts_reported bytes marks first zero = refl
+texts_reported bytes marks first (suc count) =
+    each (span marks first) refl (texts_reported bytes marks (suc first) count)
   where
     each : (own : Option (ℕ × ℕ)) → span marks first ≡ own
         → taking_part marks (suc first) count
@@ -106,14 +108,14 @@ group_0 haystack tree found (suc count) given is some =
     ap (option_map (offsets haystack)) inner.whole
 
 -- the first of this many spans are the spans of the first groups
-pub first_told : (haystack : Text) (marks : Marks) (n first count : ℕ)
+pub first_reported : (haystack : Text) (marks : Marks) (n first count : ℕ)
     → take n (spans_from haystack marks first count)
     ≡ spans_from haystack marks first (length (take n (spans_from haystack marks first count)))
-first_told haystack marks zero first count = refl
-first_told haystack marks (suc n) first zero = refl
-first_told haystack marks (suc n) first (suc count) =
+first_reported haystack marks zero first count = refl
+first_reported haystack marks (suc n) first zero = refl
+first_reported haystack marks (suc n) first (suc count) =
     ap (λ spans. option_map (offsets haystack) (span marks first) ∷ spans)
-    (first_told haystack marks n (suc first) count)
+    (first_reported haystack marks n (suc first) count)
 
 -- what is found in a haystack by a regex
 module _ (bytes : List ℕ) (utf8 : IsUtf8 bytes) (tree : Tree) (given : IsPatternTree tree)
@@ -171,4 +173,4 @@ module _ (bytes : List ℕ) (utf8 : IsUtf8 bytes) (tree : Tree) (given : IsPatte
   enough_texts n known =
       let enough = enough_take_part tree (chars bytes) found n (regular_tree tree given)
       (numbered_tree tree given) is known in
-      omega (arith, enough, texts_told bytes found.marks 0 (captures_len tree))
+      omega (arith, enough, texts_reported bytes found.marks 0 (captures_len tree))

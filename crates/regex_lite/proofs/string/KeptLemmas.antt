@@ -13,19 +13,19 @@ use Rattle.regex_lite.specs.Keeping.{SearchesForGroups}
 use Rattle.regex_lite.specs.Scanning.{IsMatchWithSlots, RegexSearching}
 use Rattle.regex_lite.specs.Searches.{CanRead}
 use Rattle.regex_lite.proofs.string.CapturedLemmas.{held_all}
-use Rattle.regex_lite.proofs.string.FoundLemmas.{first_told, length_spans, slots_told}
+use Rattle.regex_lite.proofs.string.FoundLemmas.{first_reported, length_spans, slots_reported}
 use Rattle.regex_lite.proofs.string.LawfulLemmas.{regex_lawful}
 use Rattle.regex_lite.proofs.OneTreeLemmas.{one_tree}
 use Rattle.regex_lite_engine.proofs.laws.answer.AnswerAtLemmas.{way_of_found}
 
 -- what is returned of the answer of a search is the match that the search returns
 pub match_answered : (re : Expression) (bytes : List ℕ) (start : ℕ) (slots : List (Option ℕ))
-    (told : Option (Unit {0} × Match))
+    (reported : Option (Unit {0} × Match))
     → TellsOfAnswer (IsAnswerOf re (chars bytes))
-    (IsMatchWithSlots (λ own. own) (λ own. tt {0}) bytes slots) (search_start bytes start) told
-    → TellsMatch re bytes start (option_map (λ told. told.1) told)
+    (IsMatchWithSlots (λ own. own) (λ own. tt {0}) bytes slots) (search_start bytes start) reported
+    → TellsMatch re bytes start (option_map (λ reported. reported.1) reported)
 match_answered re bytes start slots None own = own
-match_answered re bytes start slots (Some told) (found, (tree, given, is), with_slots) =
+match_answered re bytes start slots (Some reported) (found, (tree, given, is), with_slots) =
     (tree, given, (found, is, with_slots.is_match))
 
 -- after a search a searcher still finds groups
@@ -96,7 +96,7 @@ module _ (re : Expression) (bytes : List ℕ) (utf8 : IsUtf8 bytes) (start : ℕ
   module _ (slots : List (Option ℕ)) (held : HasSlots (chars bytes) slots found.marks)
       (enough : OfTree re (λ tree. length slots ≡ 2 * captures_len tree)) where
     spans_are : spans_of slots ≡ spans_from (chars bytes) found.marks 0 (captures_len tree)
-    spans_are = slots_told (chars bytes) found.marks slots 0 (captures_len tree) 0 refl
+    spans_are = slots_reported (chars bytes) found.marks slots 0 (captures_len tree) 0 refl
         (enough.2 ∙ ap (λ tree. 2 * captures_len tree)
         (one_tree re.flags (chars re.pattern) enough.0 tree enough.1 own.1))
         (λ k slot at. held k slot at
@@ -123,7 +123,7 @@ module _ (re : Expression) (bytes : List ℕ) (utf8 : IsUtf8 bytes) (start : ℕ
             own.2.1,
             (
               is_match,
-              whole ∙ first_told (chars bytes) found.marks n 0 (captures_len tree)
+              whole ∙ first_reported (chars bytes) found.marks n 0 (captures_len tree)
                   ∙ ap (λ s. spans_from (chars bytes) found.marks 0 (length s)) (sym whole),
             ),
           ),

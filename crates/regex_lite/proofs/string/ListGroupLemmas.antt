@@ -16,11 +16,11 @@ use Rattle.regex_lite.specs.CompiledList.{IsBuiltList}
 use Rattle.regex_lite.specs.RegexListSearches.{AreOfPattern}
 use Rattle.regex_lite.proofs.string.CapturedLemmas.{AreAllSlots, captured, held_all}
 use Rattle.regex_lite.proofs.string.GroupNameLemmas.{are_names}
-use Rattle.regex_lite.specs.ToldWays.{IsToldOfWay}
+use Rattle.regex_lite.specs.ReportedWays.{IsReportedOfWay}
 use Rattle.regex_lite.proofs.ListBuildLemmas.{one_list, pattern_tree}
 use Rattle.regex_lite.proofs.string.ListSlotLemmas.{enough_kept, in_whole, most_at}
-use Rattle.regex_lite.proofs.string.ListToldLemmas.{of_pattern}
-use Rattle.regex_lite.proofs.string.ToldLemmas.{same_pair}
+use Rattle.regex_lite.proofs.string.ListReportedLemmas.{of_pattern}
+use Rattle.regex_lite.proofs.string.ReportedLemmas.{same_pair}
 
 -- what is stored of the groups of a pattern is so of its tree
 pub named_groups : (tree : Tree) (groups : StoredGroups) → IsPatternTree tree
@@ -105,7 +105,7 @@ module _ (bytes : List ℕ) (utf8 : IsUtf8 bytes) (list : List Expression)
   listed_there = (stored_at built.trees compiled.graph number tree built.groups there).0
 
   module _ (found : Found) (slots : List (Option ℕ)) (span : ℕ × ℕ)
-      (told : IsToldOfWay tree bytes span slots found)
+      (reported : IsReportedOfWay tree bytes span slots found)
       (width : length slots ≡ compiled.kept_slots) (all : List (Option ℕ))
       (shared : StoredGroups) (stored : shared ≡ groups_at compiled.graph.groups number)
       (filled : all ≡ take (2 * length shared.capture_names) (all_slots slots span)) where
@@ -114,28 +114,30 @@ module _ (bytes : List ℕ) (utf8 : IsUtf8 bytes) (list : List Expression)
         × ((groups : Groups) → groups ≡ groups_of bytes all shared
         → AreGroupsOf tree bytes found groups)
     listed_groups =
-        found_groups bytes utf8 list compiled built given number tree there found told.of_way slots
-        told.tells.slots span (sym (same_pair (sym told.tells.start) (sym told.tells.end))) width
-        all shared stored filled
+        found_groups bytes utf8 list compiled built given number tree there found reported.of_way
+        slots reported.tells.slots span
+        (sym (same_pair (sym reported.tells.start) (sym reported.tells.end))) width all shared
+        stored filled
 
 -- the groups of what a search finds are what is returned
 pub groups_of_listed : (list : List Expression) (bytes : List ℕ) (start : ℕ) (trees : List Tree)
     (number : ℕ) (span : ℕ × ℕ) (slots : List (Option ℕ)) → AreTrees list trees
     → (own : IsSpanOutcomeOfList trees bytes start slots (Some (number, span)))
-    → (told : ℕ × Groups) → told.0 ≡ number → AreGroupsOf own.1.tree bytes own.0 told.1
-    → TellsGroupsOfList list bytes start (Some told)
-groups_of_listed list bytes start trees number span slots given own told same are =
-    subst (λ n. TellsGroupsOfList list bytes start (Some (n, told.1))) (sym same)
+    → (reported : ℕ × Groups) → reported.0 ≡ number → AreGroupsOf own.1.tree bytes own.0 reported.1
+    → TellsGroupsOfList list bytes start (Some reported)
+groups_of_listed list bytes start trees number span slots given own reported same are =
+    subst (λ n. TellsGroupsOfList list bytes start (Some (n, reported.1))) (sym same)
     (trees, given, (own.0, own.1, are))
 
 -- which are those of a match of the pattern
 pub listed_of_pattern : (bytes : List ℕ) (start : ℕ) (list : List Expression) (number : ℕ)
     (groups : Groups) → TellsGroupsOfList list bytes start (Some (number, groups))
     → AreOfPattern list (number, groups)
-listed_of_pattern bytes start list number groups told =
-    let alone = of_pattern (λ tree. AreGroupsOf tree bytes) list bytes start number groups told in
+listed_of_pattern bytes start list number groups reported =
+    let alone = of_pattern (λ tree. AreGroupsOf tree bytes) list bytes start number groups
+    reported in
     record {
       re = alone.0;
       numbered = alone.1;
-      of_match = record { haystack = bytes; start = start; told = alone.2 };
+      of_match = record { haystack = bytes; start = start; reported = alone.2 };
     }

@@ -12,7 +12,7 @@ use Rattle.regex_lite.specs.RegexList.{OfTrees}
 use Rattle.regex_lite.specs.RegexListSearches.{TellsLocationsOfList}
 use Rattle.regex_lite.specs.Scanning.{TellsListMatch}
 use Rattle.regex_lite.proofs.string.CapturedLemmas.{held_all}
-use Rattle.regex_lite.proofs.string.FoundLemmas.{slots_told}
+use Rattle.regex_lite.proofs.string.FoundLemmas.{slots_reported}
 use Rattle.regex_lite.proofs.ListBuildLemmas.{one_list, pattern_tree}
 use Rattle.regex_lite.proofs.string.ListSlotLemmas.{enough_kept, in_whole}
 use Rattle.regex_lite.proofs.PairedLemmas.{paired_length}
@@ -21,8 +21,8 @@ use Rattle.regex_lite_engine.proofs.laws.answer.AnswerAtLemmas.{way_of_found}
 -- what is returned of the answer of a search for several patterns, with these slots, is the match
 -- that the search returns
 pub list_match : (list : List Expression) (bytes : List ℕ) (start : ℕ) (slots : List (Option ℕ))
-    (told : Option (ℕ × Match)) → TellsListMatch list bytes start slots told
-    → TellsMatchOfList list bytes start told
+    (reported : Option (ℕ × Match)) → TellsListMatch list bytes start slots reported
+    → TellsMatchOfList list bytes start reported
 list_match list bytes start slots None own = own
 list_match list bytes start slots (Some (number, m)) (answer, (trees, given, is), with_slots) = (
   trees,
@@ -98,7 +98,7 @@ module _ (list : List Expression) (bytes : List ℕ) (start : ℕ) (kept : List 
     own_within = let le = enough in let is = two_is in omega (arith, le, is)
 
     spans_are : spans_of (take two all) ≡ spans_from (chars bytes) found.marks 0 (captures_len tree)
-    spans_are = slots_told (chars bytes) found.marks (take two all) 0 (captures_len tree) 0 refl
+    spans_are = slots_reported (chars bytes) found.marks (take two all) 0 (captures_len tree) 0 refl
         (length-take-le two all own_within ∙ two_is)
         (λ k slot at. held k slot (in_whole all two k slot at)
         ∙ ap (λ n. option_map (offset (chars bytes)) (found.marks n)) (omega arith))

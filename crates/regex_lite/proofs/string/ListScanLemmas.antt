@@ -19,9 +19,9 @@ use Rattle.regex_lite_engine.specs.Search.Answer.{IsOfWay}
 -- what is returned is this answer of some search for the patterns, and these are its slots
 abbrev pub IsMatchOfPatterns : List Expression → (haystack : List ℕ) → (slots : List (Option ℕ))
     → ℕ × Found → ℕ × Match → Type 0
-IsMatchOfPatterns list haystack slots answer told =
+IsMatchOfPatterns list haystack slots answer reported =
     IsMatchOfSearch (λ own. own.1) (λ own. own.0) (IsAnswerOfPatterns list (chars haystack))
-    haystack slots answer told
+    haystack slots answer reported
 
 -- the groups of what was found have its span
 whole_in_list : (list : List Expression) (bytes : List ℕ) (s : ℕ) (answer : ℕ × Found)
@@ -36,10 +36,11 @@ whole_in_list list bytes s (number, found) groups (trees, given, is) (re, at, ar
 
 -- so those of the last match have its span
 pub span_of_last_in_list : (list : List Expression) (bytes : List ℕ) (kept : List (Option ℕ))
-    (own : ℕ × Found) (told : ℕ × Match) (groups : Groups)
-    → IsMatchOfPatterns list bytes kept own told
-    → AreGroupsFoundInList list bytes own.0 own.1 groups → whole_span groups ≡ span_of_match told.1
-span_of_last_in_list list bytes kept own told groups (s, is, last) are =
+    (own : ℕ × Found) (reported : ℕ × Match) (groups : Groups)
+    → IsMatchOfPatterns list bytes kept own reported
+    → AreGroupsFoundInList list bytes own.0 own.1 groups → whole_span groups ≡ span_of_match
+    reported.1
+span_of_last_in_list list bytes kept own reported groups (s, is, last) are =
     whole_in_list list bytes s own groups is are ∙ sym last.is_match.span
 
 -- the slots that are kept determine the groups of the last match
@@ -47,8 +48,8 @@ module _ (bytes : List ℕ) (utf8 : IsUtf8 bytes) (list : List Expression) (comp
     (built : IsBuiltList compiled) (given : AreTrees list built.trees)
     (kept slots : List (Option ℕ)) (room : AreSlotsForAllGroups list (length kept))
     (own : ℕ × Found)
-    (told : ℕ × Match) (last : IsMatchOfPatterns list bytes kept own told) where
-  answer : IsFoundInList built.trees (chars bytes) last.0 told.0 own.1
+    (reported : ℕ × Match) (last : IsMatchOfPatterns list bytes kept own reported) where
+  answer : IsFoundInList built.trees (chars bytes) last.0 reported.0 own.1
   answer = subst (λ number. IsFoundInList built.trees (chars bytes) last.0 number own.1)
       (sym last.2.number) (subst (λ trees. IsFoundInList trees (chars bytes) last.0 own.0 own.1)
       (one_list list last.1.0 built.trees last.1.1 given) last.1.2)
@@ -60,23 +61,23 @@ module _ (bytes : List ℕ) (utf8 : IsUtf8 bytes) (list : List Expression) (comp
   width = width_kept list compiled built given (length kept) room
 
   -- its pattern is there
-  pub last_there : told.0 < length compiled.graph.groups
-  last_there = found_there bytes utf8 list compiled built given told.0 answer.tree answer.numbered
-      own.1 way kept
-      last.2.has_slots (span_of_match told.1) last.2.is_match.span width slots
+  pub last_there : reported.0 < length compiled.graph.groups
+  last_there = found_there bytes utf8 list compiled built given reported.0 answer.tree
+      answer.numbered own.1 way kept
+      last.2.has_slots (span_of_match reported.1) last.2.is_match.span width slots
 
   -- all slots hold groups, which are those of what was found
-  pub last_groups : (shared : StoredGroups) → shared ≡ groups_at compiled.graph.groups told.0
-      → slots ≡ take (2 * length shared.capture_names) (all_slots kept (span_of_match told.1))
+  pub last_groups : (shared : StoredGroups) → shared ≡ groups_at compiled.graph.groups reported.0
+      → slots ≡ take (2 * length shared.capture_names) (all_slots kept (span_of_match reported.1))
       → AreGroups (groups_of bytes slots shared)
       × ((groups : Groups) → groups ≡ groups_of bytes slots shared
       → AreGroupsFoundInList list bytes own.0 own.1 groups)
   last_groups shared stored filled =
-      let all = found_groups bytes utf8 list compiled built given told.0 answer.tree answer.numbered
-      own.1 way kept last.2.has_slots (span_of_match told.1) last.2.is_match.span width slots shared
-      stored filled
+      let all = found_groups bytes utf8 list compiled built given reported.0 answer.tree
+      answer.numbered own.1 way kept last.2.has_slots (span_of_match reported.1)
+      last.2.is_match.span width slots shared stored filled
       in
-      let re = own_tree list built.trees told.0 answer.tree given answer.numbered in (
+      let re = own_tree list built.trees reported.0 answer.tree given answer.numbered in (
         all.0,
         λ groups are. subst (λ number. AreGroupsFoundInList list bytes number own.1 groups)
             last.2.number (re.0, re.1, (answer.tree, re.2, all.1 groups are)),

@@ -10,16 +10,16 @@ use Rattle.regex_lite_engine.specs.Graph.StoredList.{TellGroupsOf}
 
 -- a search has kept as many slots as were asked for
 module _ (n : ℕ) where
-  pub room_kept : (list : List Expression) (told : Option (ℕ × Outcome))
-      → IfSome told (λ found. length found.1.slots.items ≡ n) → AreSlotsForAllGroups list n
-      → IfSome told (λ found. AreSlotsForAllGroups list (length found.1.slots.items))
+  pub room_kept : (list : List Expression) (reported : Option (ℕ × Outcome))
+      → IfSome reported (λ found. length found.1.slots.items ≡ n) → AreSlotsForAllGroups list n
+      → IfSome reported (λ found. AreSlotsForAllGroups list (length found.1.slots.items))
   room_kept list None len room = tt
   room_kept list (Some found) len room = (room.0, room.1, len ∙ room.2)
 
   -- where none were, there is room for those of the whole match
-  pub room_whole : (whole : List (Option ℕ)) (told : Option (ℕ × Outcome))
-      → IfSome told (λ found. length found.1.slots.items ≡ n) → (n ≡ 0 → length whole ≡ 2)
-      → IfSome told (λ found. found.1.slots.items ≡ [] → length whole ≡ 2)
+  pub room_whole : (whole : List (Option ℕ)) (reported : Option (ℕ × Outcome))
+      → IfSome reported (λ found. length found.1.slots.items ≡ n) → (n ≡ 0 → length whole ≡ 2)
+      → IfSome reported (λ found. found.1.slots.items ≡ [] → length whole ≡ 2)
   room_whole whole None len room = tt
   room_whole whole (Some found) len room = λ none. room (sym len ∙ ap (λ slots. length slots) none)
 

@@ -18,11 +18,11 @@ use Rattle.regex_lite.specs.ListedPattern.{OfPattern}
 use Rattle.regex_lite.specs.RegexList.{OfTrees}
 use Rattle.regex_lite.specs.RegexListSearches.{AreOfPattern}
 use Rattle.regex_lite.proofs.ListBuildLemmas.{one_list, own_tree}
-use Rattle.regex_lite.proofs.OneTreeLemmas.{has_told}
+use Rattle.regex_lite.proofs.OneTreeLemmas.{has_reported}
 use Rattle.regex_lite.proofs.PairedLemmas.{paired_length}
-use Rattle.regex_lite.proofs.string.CapturedLemmas.{all_told, captured}
+use Rattle.regex_lite.proofs.string.CapturedLemmas.{all_reported, captured}
 use Rattle.regex_lite.proofs.string.ListGroupLemmas.{named_groups, stored_at}
-use Rattle.regex_lite.proofs.string.ToldLemmas.{match_told, same_pair, span_lies}
+use Rattle.regex_lite.proofs.string.ReportedLemmas.{match_reported, same_pair, span_lies}
 use Rattle.regex_lite_engine.proofs.laws.answer.AnswerAtLemmas.{way_of_found}
 
 module _ (list : List Expression) (compiled : CompiledList) (built : IsBuiltList compiled)
@@ -62,8 +62,8 @@ module _ (list : List Expression) (compiled : CompiledList) (built : IsBuiltList
   pub listed_any : (bytes : List ℕ) (start : ℕ) (found : Bool)
       → (IsTrue found ↔ HasMatchFrom tree_at (chars bytes) (search_start bytes start))
       → OfPattern list number (λ re. IsTrue found ↔ MatchesFrom re bytes start)
-  listed_any bytes start found told =
-      (own.0, own.1, has_told own.0 bytes start found (tree_at, own.2, told))
+  listed_any bytes start found reported =
+      (own.0, own.1, has_reported own.0 bytes start found (tree_at, own.2, reported))
 
   -- nothing is returned where the tree has no match
   pub listed_none : {A : Type 0} (says : Tree → Found → A → Type 0) (bytes : List ℕ) (start : ℕ)
@@ -73,37 +73,37 @@ module _ (list : List Expression) (compiled : CompiledList) (built : IsBuiltList
 
   -- what a search of the graph tells of each tree with the number it tells of this one
   pub listed_outcome : (graph : StoredList) (bytes : List ℕ) (start : ℕ)
-      (told other : Option Outcome)
+      (reported other : Option Outcome)
       → graph ≡ compiled.graph
       → ((trees : List Tree) (tree : Tree) → AreRegularPatterns trees → IsGraphOfList trees graph
-      → HasTree trees number tree → IsOutcome tree bytes start told)
-      → told ≡ other → IsOutcome tree_at bytes start other
-  listed_outcome graph bytes start told other same tells is =
+      → HasTree trees number tree → IsOutcome tree bytes start reported)
+      → reported ≡ other → IsOutcome tree_at bytes start other
+  listed_outcome graph bytes start reported other same tells is =
       subst (IsOutcome tree_at bytes start) is
       (tells built.trees tree_at built.regular
       (subst (IsGraphOfList built.trees) (sym same) built.graph) there)
 
   -- as many slots are kept as its groups need
-  pub listed_slots : (slots count : ℕ) (told : Option Outcome) (outcome : Outcome)
+  pub listed_slots : (slots count : ℕ) (reported : Option Outcome) (outcome : Outcome)
       → OfTrees list (λ trees. (tree : Tree) → HasTree trees number tree
       → slots ≡ 2 * captures_len tree)
       → ((groups : ℕ) → slots ≡ 2 * groups → count ≡ kept_slots groups)
-      → IfSome told (λ own. length own.slots.items ≡ count) → told ≡ Some outcome
+      → IfSome reported (λ own. length own.slots.items ≡ count) → reported ≡ Some outcome
       → length outcome.slots.items ≡ kept_slots (captures_len tree_at)
   listed_slots slots count None outcome room kept len is = absurd (not_there is)
-  listed_slots slots count (Some told) outcome (trees, other, two) kept len is =
+  listed_slots slots count (Some reported) outcome (trees, other, two) kept len is =
       ap (λ (own : Outcome). length own.slots.items) (sym (same_some is)) ∙ len
       ∙ kept (captures_len tree_at) (two tree_at
       (subst (λ all. HasTree all number tree_at) (one_list list built.trees trees given other)
       there))
 
   module _ (bytes : List ℕ) (utf8 : IsUtf8 bytes) (start : ℕ) (outcome : Outcome)
-      (told : IsOutcome tree_at bytes start (Some outcome)) where
+      (reported : IsOutcome tree_at bytes start (Some outcome)) where
     -- the match lies in the haystack
     pub listed_span : LiesIn bytes (outcome.start, outcome.end)
     listed_span =
         span_lies bytes utf8 start own.0 (outcome.start, outcome.end) outcome.slots.items
-        (tree_at, own.2, told)
+        (tree_at, own.2, reported)
 
     -- it is what is returned
     pub listed_match : (m : Match) → haystack_of_match m ≡ bytes
@@ -112,8 +112,8 @@ module _ (list : List Expression) (compiled : CompiledList) (built : IsBuiltList
     listed_match m haystack span = (
       own.0,
       own.1,
-      match_told bytes utf8 start own.0 (outcome.start, outcome.end) outcome.slots.items
-          (tree_at, own.2, told) m haystack span,
+      match_reported bytes utf8 start own.0 (outcome.start, outcome.end) outcome.slots.items
+          (tree_at, own.2, reported) m haystack span,
     )
 
     module _ (enough : length outcome.slots.items ≡ kept_slots (captures_len tree_at))
@@ -126,11 +126,11 @@ module _ (list : List Expression) (compiled : CompiledList) (built : IsBuiltList
           → OfPattern list number (λ re. TellsGroups re bytes start (Some groups)))
       listed_groups =
           let s = search_start bytes start in
-          let found = told.0 in
-          let way = way_of_found tree_at (chars bytes) s found told.1 in
-          let all = all_told (chars bytes) tree_at found own_grammar way outcome.slots.items slots
-          (outcome.start, outcome.end) filled enough told.2.slots
-          (same_pair told.2.start told.2.end) in
+          let found = reported.0 in
+          let way = way_of_found tree_at (chars bytes) s found reported.1 in
+          let all = all_reported (chars bytes) tree_at found own_grammar way outcome.slots.items
+          slots (outcome.start, outcome.end) filled enough reported.2.slots
+          (same_pair reported.2.start reported.2.end) in
           let shares = named_groups tree_at shared own_grammar
           (rw stored (stored_at built.trees compiled.graph number tree_at built.groups there).1) in
           let are = captured bytes utf8 tree_at own_grammar found way slots all shared shares
@@ -142,7 +142,7 @@ module _ (list : List Expression) (compiled : CompiledList) (built : IsBuiltList
               (
                 tree_at,
                 own.2,
-                (found, told.1, subst (AreGroupsOf tree_at bytes found) (sym is) are.1),
+                (found, reported.1, subst (AreGroupsOf tree_at bytes found) (sym is) are.1),
               ),
             ),
           )
@@ -151,8 +151,8 @@ module _ (list : List Expression) (compiled : CompiledList) (built : IsBuiltList
 pub listed_of_match : (list : List Expression) (number : ℕ) (bytes : List ℕ) (start : ℕ)
     (groups : Groups) → OfPattern list number (λ re. TellsGroups re bytes start (Some groups))
     → AreOfPattern list (number, groups)
-listed_of_match list number bytes start groups (re, numbered, told) = record {
+listed_of_match list number bytes start groups (re, numbered, reported) = record {
   re = re;
   numbered = numbered;
-  of_match = record { haystack = bytes; start = start; told = told };
+  of_match = record { haystack = bytes; start = start; reported = reported };
 }

@@ -23,33 +23,35 @@ span_of_found haystack found = offsets haystack (found.start, found.end)
 module _ {A N : Type 0} (found_of : A → Found) (number_of : A → N) (bytes : List ℕ)
     (Answers : (s : ℕ) → Option A → Type 0) (lawful : AreLawful found_of (chars bytes) Answers)
     (slots : List (Option ℕ)) (utf8 : IsUtf8 bytes) where
-  abbrev Told : (s : ℕ) → Option (N × Match) → Type 0
-  Told s told = TellsOfAnswer Answers (IsMatchWithSlots found_of number_of bytes slots) s told
+  abbrev Reported : (s : ℕ) → Option (N × Match) → Type 0
+  Reported s reported = TellsOfAnswer Answers (IsMatchWithSlots found_of number_of bytes slots) s
+      reported
 
   abbrev Next : (ended : Option ℕ) → Option A → Type 0
   Next ended answer = IsNextAnswer found_of Answers (option_map (position_at bytes) ended) answer
 
   abbrev Tells : (ended : Option ℕ) → Option (N × Match) → Type 0
-  Tells ended told = TellsNextMatch found_of number_of Answers bytes ended slots told
+  Tells ended reported = TellsNextMatch found_of number_of Answers bytes ended slots reported
 
   abbrev Empty : (at : ℕ) → Type 0
   Empty at = IsEmptyAnswerFrom found_of Answers bytes at
 
   -- what is returned lies in the haystack
-  pub span_lies : (s : ℕ) (told : N × (ℕ × ℕ))
-      → TellsOfAnswer Answers (IsSpanWithSlots found_of number_of bytes slots) s (Some told)
-      → LiesIn bytes told.1
-  span_lies s told (answer, is, of) =
+  pub span_lies : (s : ℕ) (reported : N × (ℕ × ℕ))
+      → TellsOfAnswer Answers (IsSpanWithSlots found_of number_of bytes slots) s (Some reported)
+      → LiesIn bytes reported.1
+  span_lies s reported (answer, is, of) =
       let within = lawful.within s answer is in
       subst (LiesIn bytes) (sym of.span)
       (positions_lie bytes (found_of answer).start (found_of answer).end utf8 within.ordered
       within.inside)
 
   -- and the match there is returned
-  pub match_told : (s : ℕ) (told : N × (ℕ × ℕ)) (m : Match)
-      → TellsOfAnswer Answers (IsSpanWithSlots found_of number_of bytes slots) s (Some told)
-      → haystack_of_match m ≡ bytes → span_of_match m ≡ told.1 → Told s (Some (told.0, m))
-  match_told s told m (answer, is, of) haystack span = (
+  pub match_reported : (s : ℕ) (reported : N × (ℕ × ℕ)) (m : Match)
+      → TellsOfAnswer Answers (IsSpanWithSlots found_of number_of bytes slots) s (Some reported)
+      → haystack_of_match m ≡ bytes → span_of_match m ≡ reported.1 → Reported s
+      (Some (reported.0, m))
+  match_reported s reported m (answer, is, of) haystack span = (
     answer,
     is,
     record {
@@ -60,13 +62,13 @@ module _ {A N : Type 0} (found_of : A → Found) (number_of : A → N) (bytes : 
   )
 
   -- the answer of a search is what comes next, where it is returned
-  told_next : (s : ℕ) (ended : Option ℕ) (told : Option (N × Match)) → Told s told
+  reported_next : (s : ℕ) (ended : Option ℕ) (reported : Option (N × Match)) → Reported s reported
       → ((answer : Option A) → Answers s answer → Next ended answer)
       → ((found : Found) → IsWithin (chars bytes) s found
       → IsOnward ended (span_of_found (chars bytes) found))
-      → Tells ended told
-  told_next s ended None none next onward = next None none
-  told_next s ended (Some told) (answer, is, of) next onward =
+      → Tells ended reported
+  reported_next s ended None none next onward = next None none
+  reported_next s ended (Some reported) (answer, is, of) next onward =
       let same = of.is_match.span in
       let within = lawful.within s answer is in
       let end : ℕ = (found_of answer).end in
@@ -78,15 +80,16 @@ module _ {A N : Type 0} (found_of : A → Found) (number_of : A → N) (bytes : 
         subst (IsOnward ended) (sym same) (onward (found_of answer) within),
       )
 
-  at_start : (at : ℕ) (told : Option (N × Match)) → IsCharBoundary bytes at
-      → Told (search_start bytes at) told → Told (position_at bytes at) told
-  at_start at told edge tells = subst (λ s. Told s told) (start_position bytes at edge) tells
+  at_start : (at : ℕ) (reported : Option (N × Match)) → IsCharBoundary bytes at
+      → Reported (search_start bytes at) reported → Reported (position_at bytes at) reported
+  at_start at reported edge tells = subst (λ s. Reported s reported) (start_position bytes at edge)
+      tells
 
   -- the first match
-  pub first_told : (told : Option (N × Match)) → IsCharBoundary bytes 0
-      → Told (search_start bytes 0) told → Tells None told
-  first_told told edge tells = told_next 0 None told
-      (subst (λ s. Told s told) (first_position bytes) (at_start 0 told edge tells))
+  pub first_reported : (reported : Option (N × Match)) → IsCharBoundary bytes 0
+      → Reported (search_start bytes 0) reported → Tells None reported
+  first_reported reported edge tells = reported_next 0 None reported
+      (subst (λ s. Reported s reported) (first_position bytes) (at_start 0 reported edge tells))
       (λ answer is. is) (λ found within. tt)
 
   module _ (at : ℕ) (edge : IsCharBoundary bytes at) where
@@ -125,15 +128,15 @@ module _ {A N : Type 0} (found_of : A → Found) (number_of : A → N) (bytes : 
             absurd (omega (arith, same, below, early))
         each (inr (inr more)) = absurd (omega (arith, within.from, within.ordered, more))
 
-    pub none_told : Told (search_start bytes at) None → Tells (Some at) None
-    none_told tells = (None, at_start at None edge tells, refl)
+    pub none_reported : Reported (search_start bytes at) None → Tells (Some at) None
+    none_reported tells = (None, at_start at None edge tells, refl)
 
     -- a match that ends later comes next
-    pub later_told : (told : N × Match) → Told (search_start bytes at) (Some told)
-        → at < (span_of_match told.1).1 → Tells (Some at) (Some told)
-    later_told told tells later = each (at_start at (Some told) edge tells)
+    pub later_reported : (reported : N × Match) → Reported (search_start bytes at) (Some reported)
+        → at < (span_of_match reported.1).1 → Tells (Some at) (Some reported)
+    later_reported reported tells later = each (at_start at (Some reported) edge tells)
       where
-        each : Told p (Some told) → Tells (Some at) (Some told)
+        each : Reported p (Some reported) → Tells (Some at) (Some reported)
         each (answer, is, of) =
             let same = of.is_match.span in
             let within = lawful.within p answer is in
@@ -155,11 +158,11 @@ module _ {A N : Type 0} (found_of : A → Found) (number_of : A → N) (bytes : 
             )
 
     -- one that ends no later is empty there
-    pub empty_told : (told : N × Match) → Told (search_start bytes at) (Some told)
-        → (span_of_match told.1).1 ≤ at → Empty at
-    empty_told told tells early = each (at_start at (Some told) edge tells)
+    pub empty_reported : (reported : N × Match) → Reported (search_start bytes at) (Some reported)
+        → (span_of_match reported.1).1 ≤ at → Empty at
+    empty_reported reported tells early = each (at_start at (Some reported) edge tells)
       where
-        each : Told p (Some told) → Empty at
+        each : Reported p (Some reported) → Empty at
         each (answer, is, of) =
             let end = ap (λ (own : ℕ × ℕ). own.1) of.is_match.span in
             (answer, is, ends_there answer (lawful.within p answer is) (omega (arith, end, early)))
@@ -173,11 +176,11 @@ module _ {A N : Type 0} (found_of : A → Found) (number_of : A → N) (bytes : 
     )
 
     -- then the search goes on from the next position
-    pub after_told : (next : ℕ) (further : Option (N × Match)) → Empty at
-        → IsNextOffset bytes at next → Told (search_start bytes next) further
+    pub after_reported : (next : ℕ) (further : Option (N × Match)) → Empty at
+        → IsNextOffset bytes at next → Reported (search_start bytes next) further
         → Tells (Some at) further
-    after_told next further empty goes_on tells_further = told_next (suc p) (Some at) further
-        (subst (λ s. Told s further) goes_on.starts tells_further)
+    after_reported next further empty goes_on tells_further = reported_next (suc p) (Some at)
+        further (subst (λ s. Reported s further) goes_on.starts tells_further)
         (λ answer is. passed answer empty is) onward
       where
         onward : (found : Found) → IsWithin (chars bytes) (suc p) found

@@ -14,7 +14,7 @@ use Rattle.regex_lite.specs.Ahead.{AheadOf, ahead_by}
 use Rattle.regex_lite.specs.Compiled.{AreOfRegex, SharesGroups}
 use Rattle.regex_lite.specs.Items.{Came, GroupsCame}
 use Rattle.regex_lite.specs.Scanning.{AreSlotsForGroups, IsMatchOfSearch}
-use Rattle.regex_lite.proofs.string.CapturedLemmas.{AreAllSlots, all_told, captured}
+use Rattle.regex_lite.proofs.string.CapturedLemmas.{AreAllSlots, all_reported, captured}
 use Rattle.regex_lite.proofs.string.FoundLemmas.{group_0}
 use Rattle.regex_lite.proofs.string.NextLemmas.{next_answer}
 use Rattle.regex_lite.proofs.OneTreeLemmas.{one_tree}
@@ -24,15 +24,15 @@ use Rattle.regex_lite_engine.specs.Search.Answer.{IsOfWay}
 -- what is returned is this answer of some search for the pattern, and these are its slots
 abbrev pub IsMatchOfRegex : Expression → (haystack : List ℕ) → (slots : List (Option ℕ)) → Found
     → Unit {0} × Match → Type 0
-IsMatchOfRegex re haystack slots found told =
+IsMatchOfRegex re haystack slots found reported =
     IsMatchOfSearch (λ own. own) (λ own. tt {0}) (IsAnswerOf re (chars haystack)) haystack slots
-    found told
+    found reported
 
 module _ (bytes : List ℕ) (utf8 : IsUtf8 bytes) (re : Expression) (kept slots : List (Option ℕ))
     (room : AreSlotsForGroups re (length kept)) (shared : StoredGroups)
-    (shares : SharesGroups re shared) (found : Found) (told : Unit {0} × Match)
-    (filled : slots ≡ all_slots kept (span_of_match told.1))
-    (last : IsMatchOfRegex re bytes kept found told) where
+    (shares : SharesGroups re shared) (found : Found) (reported : Unit {0} × Match)
+    (filled : slots ≡ all_slots kept (span_of_match reported.1))
+    (last : IsMatchOfRegex re bytes kept found reported) where
   abbrev tree : Tree
   tree = shares.0
 
@@ -48,8 +48,8 @@ module _ (bytes : List ℕ) (utf8 : IsUtf8 bytes) (re : Expression) (kept slots 
   way = way_of_found tree (chars bytes) last.0 found is_found
 
   all_held : AreAllSlots (chars bytes) tree found slots
-  all_held = all_told (chars bytes) tree found (re.flags, _, shares.1) way kept slots
-      (span_of_match told.1) filled enough last.2.has_slots last.2.is_match.span
+  all_held = all_reported (chars bytes) tree found (re.flags, _, shares.1) way kept slots
+      (span_of_match reported.1) filled enough last.2.has_slots last.2.is_match.span
 
   -- all slots hold groups, which are those of what was found
   pub groups_kept : AreGroups (groups_of bytes slots shared)
@@ -78,16 +78,16 @@ whole_of_groups re bytes s found groups (tree, given, is) (own, given_too, are) 
 
 -- so those of the last match have its span
 pub span_of_last : (re : Expression) (bytes : List ℕ) (kept : List (Option ℕ)) (found : Found)
-    (told : Unit {0} × Match) (groups : Groups) → IsMatchOfRegex re bytes kept found told
-    → AreGroupsFound re bytes found groups → whole_span groups ≡ span_of_match told.1
-span_of_last re bytes kept found told groups (s, is, last) are =
+    (reported : Unit {0} × Match) (groups : Groups) → IsMatchOfRegex re bytes kept found reported
+    → AreGroupsFound re bytes found groups → whole_span groups ≡ span_of_match reported.1
+span_of_last re bytes kept found reported groups (s, is, last) are =
     whole_of_groups re bytes s found groups is are ∙ sym last.is_match.span
 
 -- a match came, whatever found it
 module _ {F S A N : Type 0} (sought : F → S) (slots : F → List (Option ℕ)) (found_of : A → Found)
     (number_of : A → N) (IsAnswerTo : S → Text → (s : ℕ) → Option A → Type 0)
-    (old new : Scanning F) (told : N × Match)
-    (came : Came sought slots found_of number_of IsAnswerTo old told new) where
+    (old new : Scanning F) (reported : N × Match)
+    (came : Came sought slots found_of number_of IsAnswerTo old reported new) where
   same_sought : sought new.finder ≡ sought old.finder
   same_sought = ap (λ (a : AheadOf S). a.sought) came.4.passed
 
@@ -101,14 +101,14 @@ module _ {F S A N : Type 0} (sought : F → S) (slots : F → List (Option ℕ))
   -- it is the last match, with these slots
   pub last_match : IsMatchOfSearch found_of number_of
       (IsAnswerTo (sought new.finder) (chars old.haystack)) old.haystack (slots new.finder) came.0
-      told
+      reported
   last_match = rw (same_sought) (answered.0, answered.1, came.1)
 
   -- its groups came with it
   pub groups_came : (AreFound : S → (haystack : List ℕ) → A → Groups → Type 0) (groups : Groups)
       → AreFound (sought new.finder) old.haystack came.0 groups
-      → whole_span groups ≡ span_of_match told.1
-      → GroupsCame sought found_of number_of IsAnswerTo AreFound old (told.0, groups) new
+      → whole_span groups ≡ span_of_match reported.1
+      → GroupsCame sought found_of number_of IsAnswerTo AreFound old (reported.0, groups) new
   groups_came AreFound groups are is = (
     came.0,
     came.1.number,

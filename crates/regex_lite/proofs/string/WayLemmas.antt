@@ -7,10 +7,10 @@ use Rattle.regex_lite.proofs.Common.{Match, Tree}
 use Rattle.regex_lite_engine.specs.Search.AnswerAt.{IsFoundAtInList}
 use Rattle.regex_lite_engine.specs.Search.Outcomes.{IsSpanOutcomeAt, IsSpanOutcomeAtOfList}
 use Rattle.regex_lite.specs.Anchored.{TellsAnswerAt, TellsAnswerAtOfList}
-use Rattle.regex_lite.specs.ToldWays.{TellsOfListedWay, TellsOfWay}
+use Rattle.regex_lite.specs.ReportedWays.{TellsOfListedWay, TellsOfWay}
 use Rattle.regex_lite.proofs.ListBuildLemmas.{pattern_tree}
 use Rattle.regex_lite.proofs.string.FoundLemmas.{found_lies}
-use Rattle.regex_lite.proofs.string.ToldLemmas.{same_pair}
+use Rattle.regex_lite.proofs.string.ReportedLemmas.{same_pair}
 
 module _ (whole : Bool) (bytes : List ℕ) (utf8 : IsUtf8 bytes) (start : ℕ) (re : Expression)
     (span : ℕ × ℕ) (slots : List (Option ℕ))
@@ -27,21 +27,21 @@ module _ (whole : Bool) (bytes : List ℕ) (utf8 : IsUtf8 bytes) (start : ℕ) (
       (found_lies bytes utf8 own.0 (re.flags, _, own.1) found own.2.1.of_way)
 
   -- it is what is returned
-  pub match_at_told : (m : Match) → haystack_of_match m ≡ bytes → span_of_match m ≡ span
+  pub match_at_reported : (m : Match) → haystack_of_match m ≡ bytes → span_of_match m ≡ span
       → TellsAnswerAt whole (λ tree. IsMatchOf bytes) re bytes start (Some m)
-  match_at_told m haystack is = (
+  match_at_reported m haystack is = (
     own.0,
     own.1,
     (found, own.2.1, record { haystack = haystack; span = is ∙ sym span_is }),
   )
 
   -- a way is told of
-  pub way_at_told : TellsOfWay re bytes span slots
-  way_at_told = record {
+  pub way_at_reported : TellsOfWay re bytes span slots
+  way_at_reported = record {
     tree = own.0;
     given = own.1;
     found = found;
-    told = record { of_way = own.2.1.of_way; tells = own.2.2 };
+    reported = record { of_way = own.2.1.of_way; tells = own.2.2 };
   }
 
 -- the same of several patterns
@@ -65,9 +65,9 @@ module _ (whole : Bool) (bytes : List ℕ) (utf8 : IsUtf8 bytes) (start : ℕ)
       (pattern_tree list trees given number answer.tree answer.numbered) found_of
       answer.answer.of_way)
 
-  pub list_match_at_told : (m : Match) → haystack_of_match m ≡ bytes → span_of_match m ≡ span
+  pub list_match_at_reported : (m : Match) → haystack_of_match m ≡ bytes → span_of_match m ≡ span
       → TellsAnswerAtOfList whole (λ tree. IsMatchOf bytes) list bytes start (Some (number, m))
-  list_match_at_told m haystack is = (
+  list_match_at_reported m haystack is = (
     trees,
     given,
     (
@@ -82,12 +82,12 @@ module _ (whole : Bool) (bytes : List ℕ) (utf8 : IsUtf8 bytes) (start : ℕ)
     ),
   )
 
-  pub listed_way_at_told : TellsOfListedWay list bytes number span slots
-  listed_way_at_told = record {
+  pub listed_way_at_reported : TellsOfListedWay list bytes number span slots
+  listed_way_at_reported = record {
     trees = trees;
     given = given;
     tree = answer.tree;
     numbered = answer.numbered;
     found = found_of;
-    told = record { of_way = answer.answer.of_way; tells = own.2 };
+    reported = record { of_way = answer.answer.of_way; tells = own.2 };
   }

@@ -30,7 +30,7 @@ use Rattle.regex_lite.proofs.ListBuildLemmas.{numbered_tree, own_tree, pattern_t
 use Rattle.regex_lite.proofs.OneTreeLemmas.{one_tree}
 use Rattle.regex_lite.proofs.string.AnchoredLemmas.{only_start, start_is}
 use Rattle.regex_lite.proofs.string.FoundLemmas.{group_0, groups_lie_inside}
-use Rattle.regex_lite.proofs.string.ToldLemmas.{same_pair}
+use Rattle.regex_lite.proofs.string.ReportedLemmas.{same_pair}
 
 module _ (haystack : List ℕ) (utf8 : IsUtf8 haystack) where
   abbrev h : Text
@@ -84,12 +84,12 @@ module _ (haystack : List ℕ) (utf8 : IsUtf8 haystack) where
         ),
       )
 
-  pub has_told_whole : (re : Expression) (found : Bool)
+  pub has_reported_whole : (re : Expression) (found : Bool)
       → OfTree re (λ tree. IsTrue found ↔ HasMatchAt true tree h s)
       → IsTrue found ↔ MatchesSpan re haystack (0, length haystack)
-  has_told_whole re found (tree, given, told) = (
-    λ yes_found. matched_whole re tree given (told.0 yes_found),
-    λ matches. told.1 (tree_matched_whole re tree given matches),
+  has_reported_whole re found (tree, given, reported) = (
+    λ yes_found. matched_whole re tree given (reported.0 yes_found),
+    λ matches. reported.1 (tree_matched_whole re tree given matches),
   )
 
   -- one of several patterns matches it where its tree does
@@ -105,12 +105,12 @@ module _ (haystack : List ℕ) (utf8 : IsUtf8 haystack) where
       let own = numbered_tree list trees number re given there in
       (number, own.0, own.1, tree_matched_whole re own.0 own.2 matches)
 
-  pub any_told_whole : (list : List Expression) (found : Bool)
+  pub any_reported_whole : (list : List Expression) (found : Bool)
       → OfTrees list (λ trees. IsTrue found ↔ AnyMatchesAt true trees h s)
       → IsTrue found ↔ SomeMatchesWhole list haystack
-  any_told_whole list found (trees, given, told) = (
-    λ yes_found. some_whole list trees given (told.0 yes_found),
-    λ matches. told.1 (any_whole list trees given matches),
+  any_reported_whole list found (trees, given, reported) = (
+    λ yes_found. some_whole list trees given (reported.0 yes_found),
+    λ matches. reported.1 (any_whole list trees given matches),
   )
 
   -- what is found lies on the whole haystack, and the pattern matches it
@@ -161,16 +161,17 @@ module _ (haystack : List ℕ) (utf8 : IsUtf8 haystack) where
     ),
   )
 
-  groups_whole : (re : Expression) (told : Groups) → TellsWholeGroups re haystack (Some told)
-      → IsWholeSpan re haystack (whole_span told)
-      × ((index : ℕ) → IfSome (group_span told index) (LiesInside haystack (whole_span told)))
-  groups_whole re told (tree, given, (found, is, are)) =
+  groups_whole : (re : Expression) (reported : Groups) → TellsWholeGroups re haystack
+      (Some reported) → IsWholeSpan re haystack (whole_span reported)
+      × ((index : ℕ) → IfSome (group_span reported index)
+      (LiesInside haystack (whole_span reported)))
+  groups_whole re reported (tree, given, (found, is, are)) =
       let of_pattern : IsPatternTree tree = (re.flags, _, given) in
-      let span = whole_groups tree found told of_pattern is.of_way are in (
+      let span = whole_groups tree found reported of_pattern is.of_way are in (
         subst (IsWholeSpan re haystack) (sym span) (whole_found re tree found given is),
         λ index.
-            subst (λ spans. IfSome (span_at spans index) (LiesInside haystack (whole_span told)))
-            (sym are.spans)
+            subst (λ spans. IfSome (span_at spans index)
+            (LiesInside haystack (whole_span reported))) (sym are.spans)
             (subst (λ span. IfSome (span_at (spans_from h found.marks 0 (captures_len tree)) index)
             (LiesInside haystack span)) (sym span)
             (groups_lie_inside haystack utf8 tree of_pattern found is.of_way (captures_len tree)
@@ -179,7 +180,7 @@ module _ (haystack : List ℕ) (utf8 : IsUtf8 haystack) where
 
   pub finds_whole : (re : Expression) → FindsWhole re haystack
   finds_whole re = record {
-    found = λ told (tree, given, (found, is, of)). (
+    found = λ reported (tree, given, (found, is, of)). (
       of.haystack,
       subst (IsWholeSpan re haystack) (sym of.span) (whole_found re tree found given is),
     );
@@ -217,25 +218,25 @@ module _ (haystack : List ℕ) (utf8 : IsUtf8 haystack) where
     ),
   )
 
-  found_whole_of_list : (list : List Expression) (number : ℕ) (told : Match)
-      → TellsWholeMatchOfList list haystack (Some (number, told))
-      → (haystack_of_match told ≡ haystack)
-      × IsWholeOfList list haystack number (span_of_match told)
-  found_whole_of_list list number told (trees, given, (answer, is, own)) = (
+  found_whole_of_list : (list : List Expression) (number : ℕ) (reported : Match)
+      → TellsWholeMatchOfList list haystack (Some (number, reported))
+      → (haystack_of_match reported ≡ haystack)
+      × IsWholeOfList list haystack number (span_of_match reported)
+  found_whole_of_list list number reported (trees, given, (answer, is, own)) = (
     own.value.haystack,
     subst (IsWholeOfList list haystack number) (sym own.value.span)
         (subst (λ n. IsWholeOfList list haystack n (offsets h (answer.1.start, answer.1.end)))
         (sym own.number) (whole_of_list list trees answer.0 answer.1 given is)),
   )
 
-  groups_whole_of_list : (list : List Expression) (number : ℕ) (told : Groups)
-      → TellsWholeGroupsOfList list haystack (Some (number, told))
-      → IsWholeOfList list haystack number (whole_span told)
-  groups_whole_of_list list number told (trees, given, (answer, is, own)) =
+  groups_whole_of_list : (list : List Expression) (number : ℕ) (reported : Groups)
+      → TellsWholeGroupsOfList list haystack (Some (number, reported))
+      → IsWholeOfList list haystack number (whole_span reported)
+  groups_whole_of_list list number reported (trees, given, (answer, is, own)) =
       let same = same_some (sym own.numbered ∙ is.numbered) in
-      let span = whole_groups is.tree answer.1 told
+      let span = whole_groups is.tree answer.1 reported
       (pattern_tree list trees given answer.0 is.tree is.numbered) is.answer.of_way
-      (subst (λ tree. AreGroupsOf tree haystack answer.1 told) same own.value) in
+      (subst (λ tree. AreGroupsOf tree haystack answer.1 reported) same own.value) in
       subst (IsWholeOfList list haystack number) (sym span)
       (subst (λ n. IsWholeOfList list haystack n (offsets h (answer.1.start, answer.1.end)))
       (sym own.number) (whole_of_list list trees answer.0 answer.1 given is))

@@ -27,14 +27,15 @@ impl Regex {
     pub fn is_match_counted_at(&self, haystack: &str, start: usize) -> Result<(bool, Steps), Error>
         requires { CanStartAt haystack.now start }
         ensures found { IfOk result
-            (λ told. IsTrue told.0 ↔ MatchesFrom self.now haystack.now start) }
-        ensures cost { IfOk result (λ told. IsWithinCost self.now haystack.now start told.1) }
-        ensures entered { IfOk result (λ told. IsTrue told.0 → 0 < told.1.entered) }
+            (λ reported. IsTrue reported.0 ↔ MatchesFrom self.now haystack.now start) }
+        ensures cost { IfOk result
+            (λ reported. IsWithinCost self.now haystack.now start reported.1) }
+        ensures entered { IfOk result (λ reported. IsTrue reported.0 → 0 < reported.1.entered) }
         ensures refused { IfErr result (λ error. error ≡ out_of_memory) }
     {
         let graph = &self.compiled.graph;
-        let told = search_any(graph, self.alloc, haystack, start)?;
-        Ok(told)
+        let reported = search_any(graph, self.alloc, haystack, start)?;
+        Ok(reported)
     }
 
     /// [`Regex::find_at`], and the cost of the search.
@@ -50,9 +51,12 @@ impl Regex {
         start: usize,
     ) -> Result<(Option<Match<'h>>, Steps), Error>
         requires { CanStartAt haystack.now start }
-        ensures found { IfOk result (λ told. TellsMatch self.now haystack.now start told.0) }
-        ensures cost { IfOk result (λ told. IsWithinCost self.now haystack.now start told.1) }
-        ensures entered { IfOk result (λ told. IfSome told.0 (λ _. 0 < told.1.entered)) }
+        ensures found { IfOk result
+            (λ reported. TellsMatch self.now haystack.now start reported.0) }
+        ensures cost { IfOk result
+            (λ reported. IsWithinCost self.now haystack.now start reported.1) }
+        ensures entered { IfOk result
+            (λ reported. IfSome reported.0 (λ _. 0 < reported.1.entered)) }
         ensures refused { IfErr result (λ error. error ≡ out_of_memory) }
     {
         let graph = &self.compiled.graph;
@@ -77,10 +81,13 @@ impl Regex {
         start: usize,
     ) -> Result<(Option<Captures<'h>>, Steps), Error>
         requires { CanStartAt haystack.now start }
-        ensures found { IfOk result (λ told. TellsGroups self.now haystack.now start told.0) }
-        ensures of_match { IfOk result (λ told. IfSome told.0 (AreOfMatch self.now)) }
-        ensures cost { IfOk result (λ told. IsWithinCost self.now haystack.now start told.1) }
-        ensures entered { IfOk result (λ told. IfSome told.0 (λ _. 0 < told.1.entered)) }
+        ensures found { IfOk result
+            (λ reported. TellsGroups self.now haystack.now start reported.0) }
+        ensures of_match { IfOk result (λ reported. IfSome reported.0 (AreOfMatch self.now)) }
+        ensures cost { IfOk result
+            (λ reported. IsWithinCost self.now haystack.now start reported.1) }
+        ensures entered { IfOk result
+            (λ reported. IfSome reported.0 (λ _. 0 < reported.1.entered)) }
         ensures refused { IfErr result (λ error. error ≡ out_of_memory) }
     {
         let count = self.kept_slots();
@@ -107,13 +114,15 @@ impl Regex {
         start: usize,
     ) -> Result<(Option<usize>, Steps), Error>
         requires { CanStartAt haystack.now start }
-        ensures found { IfOk result (λ told. TellsEnd self.now haystack.now start told.0) }
-        ensures cost { IfOk result (λ told. IsWithinCost self.now haystack.now start told.1) }
-        ensures entered { IfOk result (λ told. IfSome told.0 (λ _. 0 < told.1.entered)) }
+        ensures found { IfOk result (λ reported. TellsEnd self.now haystack.now start reported.0) }
+        ensures cost { IfOk result
+            (λ reported. IsWithinCost self.now haystack.now start reported.1) }
+        ensures entered { IfOk result
+            (λ reported. IfSome reported.0 (λ _. 0 < reported.1.entered)) }
         ensures refused { IfErr result (λ error. error ≡ out_of_memory) }
     {
         let graph = &self.compiled.graph;
-        let told = search_shortest(graph, self.alloc, haystack, start)?;
-        Ok(told)
+        let reported = search_shortest(graph, self.alloc, haystack, start)?;
+        Ok(reported)
     }
 }

@@ -10,7 +10,7 @@ ghost use Rattle.regex_lite.specs.Expression.{OfTree};
 ghost use Rattle.regex_lite.specs.Scanning.{AreSlotsForGroups};
 ghost use Rattle.regex_lite.specs.Searches.{AreGroupsOf, AreOfMatch, CanRead, CanStartAt};
 ghost use Rattle.regex_lite.specs.Searches.{TellsGroups, TellsLocations};
-ghost use Rattle.regex_lite.specs.ToldWays.{IsToldOfWay, TellsOfWay};
+ghost use Rattle.regex_lite.specs.ReportedWays.{IsReportedOfWay, TellsOfWay};
 
 use crate::string::captures::Captures;
 use crate::string::locations::CaptureLocations;
@@ -161,8 +161,8 @@ impl Regex {
         requires whole { outcome.slots.items ≡ [] → length whole.items ≡ 2 }
         ensures found { (tree : Tree) (found : Found)
             → IsTree self.now.flags (chars self.now.pattern) tree
-            → IsToldOfWay tree haystack.now (outcome.start, outcome.end) outcome.slots.items found
-            → IfOk result (AreGroupsOf tree haystack.now found) }
+            → IsReportedOfWay tree haystack.now (outcome.start, outcome.end) outcome.slots.items
+            found → IfOk result (AreGroupsOf tree haystack.now found) }
         ensures refused { IfErr result (λ error. error ≡ out_of_memory) }
     {
         let Outcome { start, end, slots } = outcome;

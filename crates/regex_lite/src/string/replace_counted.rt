@@ -35,14 +35,14 @@ impl Regex {
         rep: &mut R,
     ) -> Result<(CowStr<'h>, usize), Error>
         requires { R.can_append rep.old }
-        ensures replaced { IfOk result (λ told. Replaces R.fixed R.appends rep.old
-            (whole self.now haystack.now None) (cow_str_bytes told.0) rep.new) }
-        ensures counted { IfOk result (λ told. AreSoManyAhead
-            (whole self.now haystack.now None) told.1) }
-        ensures borrowed { IfOk result (λ told. IsAnswerOf self.now (chars haystack.now) 0 None
-            → told.0 ≡ CowStr.Borrowed haystack.entry) }
-        ensures owned { IfOk result (λ told. MatchesFrom self.now haystack.now 0
-            → IsOwnedStr told.0) }
+        ensures replaced { IfOk result (λ reported. Replaces R.fixed R.appends rep.old
+            (whole self.now haystack.now None) (cow_str_bytes reported.0) rep.new) }
+        ensures counted { IfOk result (λ reported. AreSoManyAhead
+            (whole self.now haystack.now None) reported.1) }
+        ensures borrowed { IfOk result (λ reported. IsAnswerOf self.now (chars haystack.now) 0 None
+            → reported.0 ≡ CowStr.Borrowed haystack.entry) }
+        ensures owned { IfOk result (λ reported. MatchesFrom self.now haystack.now 0
+            → IsOwnedStr reported.0) }
         ensures refused { IfErr result (λ error.
             ((error ≡ out_of_memory)
             × Leaves R.fixed R.appends rep.old (whole self.now haystack.now None) rep.new)
@@ -79,14 +79,14 @@ impl Regex {
         rep: &mut R,
     ) -> Result<(CowStr<'h>, usize), Error>
         requires { R.can_append rep.old }
-        ensures replaced { IfOk result (λ told. Replaces R.fixed R.appends rep.old
-            (whole self.now haystack.now (limit_of limit)) (cow_str_bytes told.0) rep.new) }
-        ensures counted { IfOk result (λ told. AreSoManyAhead
-            (whole self.now haystack.now (limit_of limit)) told.1) }
-        ensures borrowed { IfOk result (λ told. IsAnswerOf self.now (chars haystack.now) 0 None
-            → told.0 ≡ CowStr.Borrowed haystack.entry) }
-        ensures owned { IfOk result (λ told. MatchesFrom self.now haystack.now 0
-            → IsOwnedStr told.0) }
+        ensures replaced { IfOk result (λ reported. Replaces R.fixed R.appends rep.old
+            (whole self.now haystack.now (limit_of limit)) (cow_str_bytes reported.0) rep.new) }
+        ensures counted { IfOk result (λ reported. AreSoManyAhead
+            (whole self.now haystack.now (limit_of limit)) reported.1) }
+        ensures borrowed { IfOk result (λ reported. IsAnswerOf self.now (chars haystack.now) 0 None
+            → reported.0 ≡ CowStr.Borrowed haystack.entry) }
+        ensures owned { IfOk result (λ reported. MatchesFrom self.now haystack.now 0
+            → IsOwnedStr reported.0) }
         ensures refused { IfErr result (λ error.
             ((error ≡ out_of_memory) × Leaves R.fixed R.appends rep.old
             (whole self.now haystack.now (limit_of limit)) rep.new)

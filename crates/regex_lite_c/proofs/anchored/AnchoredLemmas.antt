@@ -1,7 +1,7 @@
 -- Matches that an anchored search returns, and one for a whole match.
 use Rattle.std.proofs.Common.{Bool}
 use Rattle.regex_lite_c.proofs.Common.{◌≡◌, ℕ, List, Some, Expression, span_of, Span}
-use Rattle.regex_lite.specs.Anchored.{IsToldOfNumbered, TellsAnswerAt, TellsAnswerAtOfList}
+use Rattle.regex_lite.specs.Anchored.{IsReportedOfNumbered, TellsAnswerAt, TellsAnswerAtOfList}
 use Rattle.regex_lite.specs.Anchored.{TellsMatchAt, TellsMatchAtOfList, TellsWholeMatch}
 use Rattle.regex_lite.specs.Anchored.{TellsWholeMatchOfList}
 use Rattle.regex_lite.specs.declared.string.matches.Match.{Match}
@@ -26,12 +26,13 @@ tells_list_span : (whole : Bool) (list : List Expression) (haystack : List ℕ) 
     (Some (number, found))
     → TellsAnswerAtOfList whole (IsSpanOf haystack) list haystack start
     (Some (number, span_of_match found))
-tells_list_span whole list haystack start number found (trees, are, (own, answer, told)) =
-    let at : IsToldOfNumbered (IsSpanOf haystack) trees own (number, span_of_match found) = record {
-      number = told.number;
-      tree = told.tree;
-      numbered = told.numbered;
-      value = told.value.span;
+tells_list_span whole list haystack start number found (trees, are, (own, answer, reported)) =
+    let at : IsReportedOfNumbered (IsSpanOf haystack) trees own (number, span_of_match found) =
+    record {
+      number = reported.number;
+      tree = reported.tree;
+      numbered = reported.numbered;
+      value = reported.value.span;
     } in
     (trees, are, (own, answer, at))
 
@@ -39,14 +40,14 @@ tells_list_span whole list haystack start number found (trees, are, (own, answer
 pub finds_span_at : (re : Expression) (haystack : List ℕ) (start : ℕ) (found : Match)
     (span : Span) → TellsMatchAt re haystack start (Some found)
     → span ≡ span_of (Some (span_of_match found)) → FindsSpanAt re haystack start span
-finds_span_at re haystack start found span told is =
-    (span_of_match found, tells_span _ re haystack start found told, is)
+finds_span_at re haystack start found span reported is =
+    (span_of_match found, tells_span _ re haystack start found reported, is)
 
 pub finds_whole_span : (re : Expression) (haystack : List ℕ) (found : Match) (span : Span)
     → TellsWholeMatch re haystack (Some found)
     → span ≡ span_of (Some (span_of_match found)) → FindsWholeSpan re haystack span
-finds_whole_span re haystack found span told is =
-    (span_of_match found, tells_span _ re haystack 0 found told, is)
+finds_whole_span re haystack found span reported is =
+    (span_of_match found, tells_span _ re haystack 0 found reported, is)
 
 -- the same for several patterns
 pub finds_list_span_at : (list : List Expression) (haystack : List ℕ) (start number : ℕ)
@@ -54,13 +55,13 @@ pub finds_list_span_at : (list : List Expression) (haystack : List ℕ) (start n
     → TellsMatchAtOfList list haystack start (Some (number, found))
     → span ≡ list_span_of (number, span_of_match found)
     → FindsListSpanAt list haystack start span
-finds_list_span_at list haystack start number found span told is =
-    ((number, span_of_match found), tells_list_span _ list haystack start number found told, is)
+finds_list_span_at list haystack start number found span reported is =
+    ((number, span_of_match found), tells_list_span _ list haystack start number found reported, is)
 
 pub finds_whole_list_span : (list : List Expression) (haystack : List ℕ) (number : ℕ)
     (found : Match) (span : ListSpan)
     → TellsWholeMatchOfList list haystack (Some (number, found))
     → span ≡ list_span_of (number, span_of_match found)
     → FindsWholeListSpan list haystack span
-finds_whole_list_span list haystack number found span told is =
-    ((number, span_of_match found), tells_list_span _ list haystack 0 number found told, is)
+finds_whole_list_span list haystack number found span reported is =
+    ((number, span_of_match found), tells_list_span _ list haystack 0 number found reported, is)

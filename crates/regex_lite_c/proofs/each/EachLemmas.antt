@@ -37,17 +37,17 @@ finds_span re haystack start found span tells is =
 -- this many texts were searched
 pub record AreSearched (re : Expression) (bytes lens : List ℕ) (at k : ℕ) (old new : List Span)
     : Type 0 where
-  pub told : List (Option (ℕ × ℕ))
-  pub number : length told ≡ k
+  pub reported : List (Option (ℕ × ℕ))
+  pub number : length reported ≡ k
   pub lengths : AreTextLengths bytes at (drop k lens)
   pub on : (more : List (Option (ℕ × ℕ))) → AreFirstOfEach re bytes at (drop k lens) more
-      → AreFirstOfEach re bytes 0 lens (told ++ more)
-  pub written : AreWritten told old new
+      → AreFirstOfEach re bytes 0 lens (reported ++ more)
+  pub written : AreWritten reported old new
 
 pub none_searched : (re : Expression) (bytes lens : List ℕ) (old : List Span)
     → AreTextLengths bytes 0 lens → AreSearched re bytes lens 0 0 old old
 none_searched re bytes lens old are = record {
-  told = [];
+  reported = [];
   number = refl;
   lengths = are;
   on = λ more is. is;
@@ -63,29 +63,30 @@ next_ends re bytes lens at k old new so less =
 
 -- one more was searched
 pub one_searched : (re : Expression) (bytes lens : List ℕ) (at k : ℕ) (old new : List Span)
-    (span : Span) (told : Option (ℕ × ℕ))
+    (span : Span) (reported : Option (ℕ × ℕ))
     → AreSearched re bytes lens at k old new → k < length lens → k < length new
-    → TellsSpan re (slice_range bytes at (at + get_or lens k 0)) 0 told → span ≡ span_of told
-    → AreSearched re bytes lens (at + get_or lens k 0) (k + 1) old (slice_set new k span)
-one_searched re bytes lens at k old new span told so less room tells is =
+    → TellsSpan re (slice_range bytes at (at + get_or lens k 0)) 0 reported → span ≡ span_of
+    reported → AreSearched re bytes lens (at + get_or lens k 0) (k + 1) old (slice_set new k span)
+one_searched re bytes lens at k old new span reported so less buffer tells is =
     let next = len_at lens k less in
     record {
-      told = so.told ++ (told ∷ []);
-      number = omega (arith, length-append so.told (told ∷ []), so.number);
+      reported = so.reported ++ (reported ∷ []);
+      number = omega (arith, length-append so.reported (reported ∷ []), so.number);
       lengths = (subst (AreTextLengths bytes at) next so.lengths).1;
       on = λ more are.
-          subst (AreFirstOfEach re bytes 0 lens) (sym (append_assoc so.told (told ∷ []) more))
-          (so.on (told ∷ more)
-          (subst (λ ns. AreFirstOfEach re bytes at ns (told ∷ more)) (sym next) (tells, are)));
-      written = written_more span_of so.told told old new k span so.written so.number room is;
+          subst (AreFirstOfEach re bytes 0 lens)
+          (sym (append_assoc so.reported (reported ∷ []) more)) (so.on (reported ∷ more)
+          (subst (λ ns. AreFirstOfEach re bytes at ns (reported ∷ more)) (sym next) (tells, are)));
+      written = written_more span_of so.reported reported old new k span so.written so.number buffer
+          is;
     }
 
 -- all were searched
 pub all_searched : (re : Expression) (bytes lens : List ℕ) (at k : ℕ) (old new : List Span)
     → AreSearched re bytes lens at k old new → length lens ≤ k → AreFoundEach re bytes lens old new
 all_searched re bytes lens at k old new so past = (
-  so.told,
-  subst (AreFirstOfEach re bytes 0 lens) (append-nil so.told)
+  so.reported,
+  subst (AreFirstOfEach re bytes 0 lens) (append-nil so.reported)
       (so.on [] (subst (λ ns. AreFirstOfEach re bytes at ns []) (sym (drop_all k lens past)) refl)),
   so.written,
 )

@@ -8,8 +8,8 @@ use Rattle.std.proofs.Common.{IsSome, cond}
 use Rattle.regex_lite.specs.Ahead.{AnswerComesNext, NoneIsAhead}
 use Rattle.regex_lite.specs.Groups.{span_at}
 use Rattle.regex_lite.specs.MatchList.{IsNextAnswer}
-use Rattle.regex_lite_c.specs.GroupWalks.{AreFirstAnswered, AreGroupsListed, AreItsGroups}
-use Rattle.regex_lite_c.specs.GroupWalks.{IsFilled, IsToldFull, IsWithoutRoom, NoMoreFit}
+use Rattle.regex_lite_c.specs.GroupWalks.{AreFirstAnswered, AreGroupsListed, AreItsGroups, IsFilled}
+use Rattle.regex_lite_c.specs.GroupWalks.{IsFull, IsWithoutBuffer, NoMoreFit}
 use Rattle.regex_lite_c.specs.Kinds.{Kind}
 use Rattle.regex_lite_c.specs.Walks.{NoneComes}
 use Rattle.regex_lite_c.proofs.group_walk.StageLemmas.{AreSoFar, Stage}
@@ -20,7 +20,8 @@ module _ {S X T : Type 0} {kind : Kind S X T} {start now : Stage S T}
   -- the rooms are as long as they were
   abbrev pub AreAsLong : Type 0
   AreAsLong =
-      (length now.to.told ≡ length start.to.told) × (length now.to.room ≡ length start.to.room)
+      (length now.to.reported ≡ length start.to.reported)
+      × (length now.to.buffer ≡ length start.to.buffer)
 
   one_left : now.count + suc zero ≡ length so.list + 1
   one_left = omega (arith, so.number)
@@ -70,7 +71,7 @@ module _ {S X T : Type 0} {kind : Kind S X T} {start now : Stage S T}
             (map (λ own. own.0) so.list) (so.lists 0));
         number = sym so.number;
         each = so.each;
-        told = so.told;
+        reported = so.reported;
         written = so.written;
         front = ends.front;
         last = ends.last;
@@ -79,20 +80,20 @@ module _ {S X T : Type 0} {kind : Kind S X T} {start now : Stage S T}
       }
 
   -- the groups of the next match need more room than is left, and this number is to be written
-  abbrev pub IsFull : (number : ℕ) → Type 0
-  IsFull number =
+  abbrev pub IsEndOfBuffer : (number : ℕ) → Type 0
+  IsEndOfBuffer number =
       (next : kind.Answer × Groups)
       × AnswerComesNext kind.found_of kind.IsAnswerTo now.ahead (Some next.0)
-      × AreItsGroups kind now.ahead next × (number ≡ cond kind.is_told (length next.1.spans) 0)
-      × (IsToldFull kind now.to.told now.count
-      ⊎ (length now.to.room < now.used + length next.1.spans))
+      × AreItsGroups kind now.ahead next × (number ≡ cond kind.is_reported (length next.1.spans) 0)
+      × (IsFull kind now.to.reported now.count
+      ⊎ (length now.to.buffer < now.used + length next.1.spans))
 
   -- why a walk ends here, with this answer and this number: none is left, or there is too little
   -- room
   abbrev pub IsEnd : ℕ × ℕ → Type 0
   IsEnd own =
       ((own.0 ≡ NO) × (own.1 ≡ 0) × NoneComes kind now.ahead)
-      ⊎ ((own.0 ≡ NO_ROOM) × IsFull own.1)
+      ⊎ ((own.0 ≡ NO_ROOM) × IsEndOfBuffer own.1)
 
   -- so no more matches fit
   no_more : (own : ℕ × ℕ) → AreAsLong → IsEnd own → NoMoreFit kind start.ahead start.to so.list
@@ -102,23 +103,23 @@ module _ {S X T : Type 0} {kind : Kind S X T} {start now : Stage S T}
     first_with_next full.0 full.1,
     found_at_start full.0 full.2,
     elim full.4 [
-      | inl told ↦ inl (told.0, omega (arith, told.1, len.0, so.number))
+      | inl reported ↦ inl (reported.0, omega (arith, reported.1, len.0, so.number))
       | inr spans ↦ inr (omega (arith, spans, len.1, so.used_is))
     ],
   )
 
   -- nothing was written, since there is too little room
-  none_fits : (number : ℕ) → AreAsLong → now.count ≡ 0 → IsFull number
-      → IsWithoutRoom kind start.ahead start.to number
+  none_fits : (number : ℕ) → AreAsLong → now.count ≡ 0 → IsEndOfBuffer number
+      → IsWithoutBuffer kind start.ahead start.to number
   none_fits number len few full =
       let same = so.none few in
-      subst (λ a. IsWithoutRoom kind a start.to number) same.0 (
+      subst (λ a. IsWithoutBuffer kind a start.to number) same.0 (
         full.0,
         full.1,
         full.2,
         full.3,
         elim full.4 [
-          | inl told ↦ inl (told.0, omega (arith, told.1, len.0, few))
+          | inl reported ↦ inl (reported.0, omega (arith, reported.1, len.0, few))
           | inr spans ↦ inr (omega (arith, spans, len.1, same.2))
         ],
       )

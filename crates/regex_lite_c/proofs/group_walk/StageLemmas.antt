@@ -13,7 +13,8 @@ use Rattle.std.proofs.lemmas.List.Elements.{All-append}
 use Rattle.regex_lite_syntax.proofs.LookupLemmas.{get_left, get_right}
 use Rattle.regex_lite.specs.Ahead.{AheadOf, PassesAnswer}
 use Rattle.regex_lite.specs.Groups.{whole_span}
-use Rattle.regex_lite_c.specs.GroupWalks.{AreItsGroups, GroupRoom, spans_of_all, told_of_groups}
+use Rattle.regex_lite_c.specs.GroupWalks.{AreItsGroups, GroupBuffer, reported_of_groups}
+use Rattle.regex_lite_c.specs.GroupWalks.{spans_of_all}
 use Rattle.regex_lite_c.specs.Kinds.{Kind}
 use Rattle.regex_lite_c.specs.Spans.{AreWrittenAt}
 use Rattle.regex_lite_c.proofs.walk.WalkLemmas.{ListsAnswers, lists_more, lists_none, written_more}
@@ -22,31 +23,31 @@ use Rattle.regex_lite_c.proofs.walk.WalkLemmas.{ListsAnswers, lists_more, lists_
 -- matches
 pub record Stage (S T : Type 0) : Type 0 where
   pub ahead : AheadOf S
-  pub to : GroupRoom T
+  pub to : GroupBuffer T
   pub used : ℕ
   pub count : ℕ
 
-abbrev pub stage_of : {S T : Type 0} → AheadOf S → GroupRoom T → (used count : ℕ) → Stage S T
+abbrev pub stage_of : {S T : Type 0} → AheadOf S → GroupBuffer T → (used count : ℕ) → Stage S T
 stage_of ahead to used count = record { ahead = ahead; to = to; used = used; count = count }
 
 -- what is written after these comes next to them
-pub written_after : (told more : List (Option (ℕ × ℕ))) (old now new : List Span)
-    → AreWritten told old now → AreWrittenAt (length told) more now new
-    → AreWritten (told ++ more) old new
-written_after told more old now new before is =
-    let n = length told in
-    let longer = length-append told more in
+pub written_after : (reported more : List (Option (ℕ × ℕ))) (old now new : List Span)
+    → AreWritten reported old now → AreWrittenAt (length reported) more now new
+    → AreWritten (reported ++ more) old new
+written_after reported more old now new before is =
+    let n = length reported in
+    let longer = length-append reported more in
     record {
       each = λ k lt. elim (cases_lt k n) [
         | inl left ↦
             is.rest k (inl left) ∙ before.each k left
-            ∙ ap (option_map span_of) (sym (get_left told more k left))
+            ∙ ap (option_map span_of) (sym (get_left reported more k left))
         | inr right ↦
             let j = k - n in
             let at : k ≡ n + j = omega (arith, right) in
-            subst (λ m. slice_get new m ≡ option_map span_of (slice_get (told ++ more) m)) (sym at)
-            (is.each j (omega (arith, lt, longer, at))
-            ∙ ap (option_map span_of) (sym (get_right told more j)))
+            subst (λ m. slice_get new m ≡ option_map span_of (slice_get (reported ++ more) m))
+            (sym at) (is.each j (omega (arith, lt, longer, at))
+            ∙ ap (option_map span_of) (sym (get_right reported more j)))
       ];
       rest = λ k le.
           is.rest k (inr (omega (arith, le, longer))) ∙ before.rest k (omega (arith, le, longer));
@@ -59,17 +60,17 @@ all_one P own is (suc k) given lt = absurd (omega (arith, lt))
 
 module _ {S X T : Type 0} (kind : Kind S X T) where
   -- the last of these matches is the one after which the walk goes on
-  pub record EndsWith (list : List (kind.Answer × Groups)) (to : GroupRoom T) : Type 0 where
+  pub record EndsWith (list : List (kind.Answer × Groups)) (to : GroupBuffer T) : Type 0 where
     pub front : List (kind.Answer × Groups)
     pub last : kind.Answer × Groups
     pub is : list ≡ front ++ (last ∷ [])
     pub end : ended_of to.walk ≡ Some (whole_span last.1).1
 
   -- these matches were passed since the start, and this many are left of those there is room for
-  abbrev pub Passed : (start now : Stage S T) → (room left : ℕ) → List (kind.Answer × Groups)
+  abbrev pub Passed : (start now : Stage S T) → (buffer left : ℕ) → List (kind.Answer × Groups)
       → Type 0
-  Passed start now room left list =
-      ListsAnswers kind.found_of kind.IsAnswerTo start.ahead now.ahead room left
+  Passed start now buffer left list =
+      ListsAnswers kind.found_of kind.IsAnswerTo start.ahead now.ahead buffer left
       (map (λ own. own.0) list)
 
   -- since the start the groups of these matches were written, one after another
@@ -78,13 +79,13 @@ module _ {S X T : Type 0} (kind : Kind S X T) where
     pub number : length list ≡ now.count
     pub lists : (left : ℕ) → Passed start now (now.count + left) left list
     pub each : All (AreItsGroups kind start.ahead) list
-    pub told : kind.is_told ≡ true
-        → AreWrittenAs (told_of_groups kind) list start.to.told now.to.told
-    pub within : kind.is_told ≡ true → now.count ≤ length now.to.told
-    pub written : AreWritten (spans_of_all list) start.to.room now.to.room
+    pub reported : kind.is_reported ≡ true
+        → AreWrittenAs (reported_of_groups kind) list start.to.reported now.to.reported
+    pub within : kind.is_reported ≡ true → now.count ≤ length now.to.reported
+    pub written : AreWritten (spans_of_all list) start.to.buffer now.to.buffer
     pub used_is : length (spans_of_all list) ≡ now.used
     pub counted : now.count ≤ now.used
-    pub fits : now.used ≤ length now.to.room
+    pub fits : now.used ≤ length now.to.buffer
     pub none : now.count ≡ 0
         → (now.ahead ≡ start.ahead) × (now.to ≡ start.to) × (now.used ≡ 0)
     pub some : 0 < now.count → EndsWith list now.to
@@ -99,7 +100,7 @@ module _ {S X T : Type 0} (kind : Kind S X T) where
         subst (λ n. Passed start start n left []) (omega (arith, none_counted))
         (lists_none kind.found_of kind.IsAnswerTo start.ahead left limit);
     each = λ k own lt. absurd (omega (arith, lt));
-    told = λ _. record { each = λ k lt. absurd (omega (arith, lt)); rest = λ k le. refl };
+    reported = λ _. record { each = λ k lt. absurd (omega (arith, lt)); rest = λ k le. refl };
     within = λ _. omega (arith, none_counted);
     written = record { each = λ k lt. absurd (omega (arith, lt)); rest = λ k le. refl };
     used_is = sym none_used;
@@ -114,12 +115,12 @@ module _ {S X T : Type 0} (kind : Kind S X T) where
     pub own : kind.Answer × Groups
     pub passes : PassesAnswer kind.found_of kind.IsAnswerTo old.ahead own.0 new.ahead
     pub are : AreItsGroups kind old.ahead own
-    pub told : kind.is_told ≡ true
-        → new.to.told ≡ slice_set old.to.told old.count (told_of_groups kind own)
-    pub below : kind.is_told ≡ true → old.count < length old.to.told
-    pub written : AreWrittenAt old.used own.1.spans old.to.room new.to.room
-    pub same : length new.to.room ≡ length old.to.room
-    pub room : old.used + length own.1.spans ≤ length old.to.room
+    pub reported : kind.is_reported ≡ true
+        → new.to.reported ≡ slice_set old.to.reported old.count (reported_of_groups kind own)
+    pub below : kind.is_reported ≡ true → old.count < length old.to.reported
+    pub written : AreWrittenAt old.used own.1.spans old.to.buffer new.to.buffer
+    pub same : length new.to.buffer ≡ length old.to.buffer
+    pub buffer : old.used + length own.1.spans ≤ length old.to.buffer
     pub some : 0 < length own.1.spans
     pub end : ended_of new.to.walk ≡ Some (whole_span own.1).1
     pub used : new.used ≡ old.used + length own.1.spans
@@ -151,28 +152,29 @@ module _ {S X T : Type 0} (kind : Kind S X T) where
             one.passes));
         each = All-append (AreItsGroups kind start.ahead) so.list (own ∷ []) so.each
             (all_one (AreItsGroups kind start.ahead) own are);
-        told = λ is.
-            subst (AreWrittenAs (told_of_groups kind) list start.to.told) (sym (one.told is))
-            (written_more (told_of_groups kind) so.list own start.to.told old.to.told old.count
-            (told_of_groups kind own) (so.told is) so.number (one.below is) refl);
+        reported = λ is.
+            subst (AreWrittenAs (reported_of_groups kind) list start.to.reported)
+            (sym (one.reported is)) (written_more (reported_of_groups kind) so.list own
+            start.to.reported old.to.reported old.count (reported_of_groups kind own)
+            (so.reported is) so.number (one.below is) refl);
         within = λ is.
             omega (
               arith,
               one.below is,
               one.count,
-              ap length (one.told is)
-                  ∙ length-set old.to.told old.count (told_of_groups kind own),
+              ap length (one.reported is)
+                  ∙ length-set old.to.reported old.count (reported_of_groups kind own),
             );
-        written = subst (λ told. AreWritten told start.to.room new.to.room) (sym all)
-            (written_after (spans_of_all so.list) spans start.to.room old.to.room new.to.room
+        written = subst (λ reported. AreWritten reported start.to.buffer new.to.buffer) (sym all)
+            (written_after (spans_of_all so.list) spans start.to.buffer old.to.buffer new.to.buffer
             so.written
-            (subst (λ n. AreWrittenAt n spans old.to.room new.to.room) (sym so.used_is)
+            (subst (λ n. AreWrittenAt n spans old.to.buffer new.to.buffer) (sym so.used_is)
             one.written));
         used_is =
             ap length all ∙ length-append (spans_of_all so.list) spans
             ∙ ap (λ n. n + length spans) so.used_is ∙ sym one.used;
         counted = omega (arith, so.counted, one.some, one.used, one.count);
-        fits = omega (arith, one.room, one.same, one.used);
+        fits = omega (arith, one.buffer, one.same, one.used);
         none = λ wrong. absurd (omega (arith, wrong, one.count));
         some = λ _. record { front = so.list; last = own; is = refl; end = one.end };
       }

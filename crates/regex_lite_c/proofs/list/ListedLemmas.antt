@@ -69,7 +69,7 @@ module _ (list : List Expression) (number : ℕ) (within : number < length list)
         none = λ zero. of_one list number (λ re. TellsGroups re bytes start None) re is
             (so.none zero);
         same = so.same;
-        same_told = so.same_told;
+        same_reported = so.same_reported;
         refused = so.refused;
         one_of = so.one_of;
       })

@@ -8,14 +8,14 @@ use Rattle.regex_lite_c.specs.declared.outline.part.Outlined.{Outlined}
 use Rattle.regex_lite_c.specs.declared.outline.part.WrittenPart.{WrittenPart}
 use Rattle.regex_lite_c.proofs.AnswerLemmas.{yes_or_no_room}
 
-pub parts_told : (settings : Settings) (answer : ℕ) (own : List Part) (old parts : List WrittenPart)
-    (message : List ℕ) (told : Outlined) → IsUtf8 settings.pattern
-    → AreThisMany settings told.count own → told.message_len ≡ 0
-    → (told.count ≤ length old → (answer ≡ YES) × AreWrittenAs written_part own old parts)
-    → (length old < told.count → (answer ≡ NO_ROOM) × (parts ≡ old))
-    → IsOutlineAnswer settings answer old parts message message told
-parts_told settings answer own old parts message told utf8 are unsaid written no_room =
-    let is = yes_or_no_room (length old) told.count answer written no_room in
+pub parts_reported : (settings : Settings) (answer : ℕ) (own : List Part)
+    (old parts : List WrittenPart) (message : List ℕ) (reported : Outlined) → IsUtf8
+    settings.pattern → AreThisMany settings reported.count own → reported.message_len ≡ 0
+    → (reported.count ≤ length old → (answer ≡ YES) × AreWrittenAs written_part own old parts)
+    → (length old < reported.count → (answer ≡ NO_ROOM) × (parts ≡ old))
+    → IsOutlineAnswer settings answer old parts message message reported
+parts_reported settings answer own old parts message reported utf8 are unsaid written no_room =
+    let is = yes_or_no_room (length old) reported.count answer written no_room in
     record {
       written = λ yes. (own, are, is.1 yes);
       no_room = λ full. (own, are, (is.2 (λ yes. omega (arith, full, yes))).1);
@@ -26,6 +26,6 @@ parts_told settings answer own old parts message told utf8 are unsaid written no
       );
       refused = λ other more. absurd (more (is.2 other).0);
       complete = λ other more. absurd (more (is.2 other).0);
-      none_told = λ other more. absurd (more (is.2 other).0);
+      none_reported = λ other more. absurd (more (is.2 other).0);
       no_message = λ _. (unsaid, refl);
     }

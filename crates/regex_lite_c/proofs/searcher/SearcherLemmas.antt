@@ -97,36 +97,36 @@ module _ (re : Expression) (haystack : List ℕ) (Says : Tree → Found → Type
   all_of_tree : (spans : List (Option (ℕ × ℕ))) (m : Match)
       → OfTree re (λ tree. (length spans ≡ captures_len tree) × FindsFirst spans m tree)
       → OfTree re (FindsAll spans)
-  all_of_tree spans m (tree, are, (each, (found, says, told))) = (
+  all_of_tree spans m (tree, are, (each, (found, says, reported))) = (
     tree,
     are,
-    (found, says, told.1 ∙ ap (λ n. spans_from (chars haystack) found.marks 0 n) each),
+    (found, says, reported.1 ∙ ap (λ n. spans_from (chars haystack) found.marks 0 n) each),
   )
 
   all_spans : (spans : List (Option (ℕ × ℕ))) (m : Match) → HasEachGroup re spans
       → OfTree re (FindsFirst spans m) → OfTree re (FindsAll spans)
-  all_spans spans m each told =
+  all_spans spans m each reported =
       all_of_tree spans m (of_both re (λ tree. length spans ≡ captures_len tree)
-      (FindsFirst spans m) each told)
+      (FindsFirst spans m) each reported)
 
 -- so locations with a span for each group tell the spans of all groups
 pub tells_spans : (re : Expression) (haystack : List ℕ) (start : ℕ)
     (spans : List (Option (ℕ × ℕ))) (m : Match) → HasEachGroup re spans
     → TellsLocations re haystack start spans (Some m) → TellsSpans re haystack start (Some spans)
-tells_spans re haystack start spans m each told =
+tells_spans re haystack start spans m each reported =
     all_spans re haystack
     (λ tree found. IsAnswer tree (chars haystack) (search_start haystack start) (Some found))
-    spans m each told
+    spans m each reported
 
 -- the same where the match starts at the offset
 pub tells_spans_at : (re : Expression) (haystack : List ℕ) (start : ℕ)
     (spans : List (Option (ℕ × ℕ))) (m : Match) → HasEachGroup re spans
     → TellsLocationsAt re haystack start spans (Some m)
     → TellsSpansAt re haystack start (Some spans)
-tells_spans_at re haystack start spans m each told =
+tells_spans_at re haystack start spans m each reported =
     all_spans re haystack
     (λ tree found. IsAnswerAt false tree (chars haystack) (search_start haystack start)
-    (Some found)) spans m each told
+    (Some found)) spans m each reported
 
 -- what is so of a searcher's parts, and of its text as it was read, is so of the searcher
 pub of_own : (P : Expression → List ℕ → Type 0) (own : TextSearch) (re : Expression)

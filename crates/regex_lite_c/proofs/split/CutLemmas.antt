@@ -76,7 +76,7 @@ pub record IsOneMore (old new : Stage) (k : ℕ) : Type 0 where
 pub one_piece_more : (start old new : Stage) (k : ℕ) → AreSoFar start old k
     → length old.spans ≡ length start.spans → IsOneMore old new k → AreSoFar start new (k + 1)
 one_piece_more start old new k so same one =
-    let room = length start.spans in
+    let buffer = length start.spans in
     let ended = ended_of start.walk in
     let found = one.found in
     let tell = found_span (chars start.ahead.haystack) in
@@ -86,15 +86,15 @@ one_piece_more start old new k so same one =
     ap (λ bytes. found_span (chars bytes) found) so.lists.haystack in
     let longer : spans_in start.ahead.haystack (so.list ++ (found ∷ [])) ≡ spans ++ (own ∷ []) =
     map-append tell so.list (found ∷ []) in
-    let less : room - k ≡ suc (room - (k + 1)) = omega (arith, one.below, same) in
+    let less : buffer - k ≡ suc (buffer - (k + 1)) = omega (arith, one.below, same) in
     record {
       list = so.list ++ (found ∷ []);
       number = omega (arith, length-append so.list (found ∷ []), so.number);
-      lists = lists_more (λ own. own) IsAnswerOf start.ahead old.ahead new.ahead room
-          (room - (k + 1)) so.list found
-          (subst (λ n. Lists start.ahead old.ahead room n so.list) less so.lists) one.passes;
+      lists = lists_more (λ own. own) IsAnswerOf start.ahead old.ahead new.ahead buffer
+          (buffer - (k + 1)) so.list found
+          (subst (λ n. Lists start.ahead old.ahead buffer n so.list) less so.lists) one.passes;
       written =
-          subst (λ told. AreWritten told start.spans new.spans)
+          subst (λ reported. AreWritten reported start.spans new.spans)
           (sym (ap (pieces_before ended) longer ∙ before_more ended spans own))
           (subst (λ now. AreWritten
           (pieces_before ended spans ++ (Some (unwrap_or (last_end ended spans) 0, own.0) ∷ []))
@@ -117,7 +117,7 @@ pub last_piece : (start now : Stage) (k : ℕ) (piece : Span) → AreSoFar start
     → ArePiecesListed start.ahead (ended_of start.walk)
     (record { walk = now.walk; is_over = true }) start.spans (slice_set now.spans k piece) (k + 1)
 last_piece start now k piece so below same over is =
-    let room = length start.spans in
+    let buffer = length start.spans in
     let bytes = length start.ahead.haystack in
     let ended = ended_of start.walk in
     let spans = spans_in start.ahead.haystack so.list in
@@ -126,7 +126,7 @@ last_piece start now k piece so below same over is =
     let number = many start.ahead ended so.list in
     record {
       list = so.list;
-      are_first = lists_to_end (λ own. own) IsAnswerOf start.ahead now.ahead room (room - k)
+      are_first = lists_to_end (λ own. own) IsAnswerOf start.ahead now.ahead buffer (buffer - k)
           so.list so.lists over;
       over = λ _. omega (arith, so.number, below, same);
       full = λ wrong. absurd cc;
@@ -154,7 +154,7 @@ full_of_pieces start cut now new k so all begun =
           so.lists);
       over = λ wrong. absurd cc;
       full = λ _. so.number ∙ all;
-      written = subst (λ told. AreWritten told start.spans new) same so.written;
+      written = subst (λ reported. AreWritten reported start.spans new) same so.written;
       number = sym (ap length (sym same) ∙ many start.ahead ended so.list ∙ so.number);
       goes_on = so.walked;
     })

@@ -20,27 +20,27 @@ module _ {S A : Type 0} (found_of : A → Found)
 
   -- with the answers of this list passed, this many are left of those that there is room for: the
   -- first of those ahead now go on with the list
-  pub record ListsAnswers (start a : AheadOf S) (room left : ℕ) (list : List A) : Type 0 where
+  pub record ListsAnswers (start a : AheadOf S) (buffer left : ℕ) (list : List A) : Type 0 where
     pub limit : a.limit ≡ None
     pub sought : a.sought ≡ start.sought
     pub haystack : a.haystack ≡ start.haystack
     pub on : (rest : List A) → AreFirstOf start.sought (chars start.haystack) left a.ended rest
-        → AreFirstOf start.sought (chars start.haystack) room start.ended (list ++ rest)
+        → AreFirstOf start.sought (chars start.haystack) buffer start.ended (list ++ rest)
 
-  pub lists_none : (start : AheadOf S) (room : ℕ) → start.limit ≡ None
-      → ListsAnswers start start room room []
-  lists_none start room limit = record {
+  pub lists_none : (start : AheadOf S) (buffer : ℕ) → start.limit ≡ None
+      → ListsAnswers start start buffer buffer []
+  lists_none start buffer limit = record {
     limit = limit;
     sought = refl;
     haystack = refl;
     on = λ rest are. are;
   }
 
-  pub lists_more : (start old new : AheadOf S) (room left : ℕ) (list : List A) (answer : A)
-      → ListsAnswers start old room (suc left) list
+  pub lists_more : (start old new : AheadOf S) (buffer left : ℕ) (list : List A) (answer : A)
+      → ListsAnswers start old buffer (suc left) list
       → PassesAnswer found_of IsAnswerTo old answer new
-      → ListsAnswers start new room left (list ++ (answer ∷ []))
-  lists_more start old new room left list answer so passes =
+      → ListsAnswers start new buffer left (list ++ (answer ∷ []))
+  lists_more start old new buffer left list answer so passes =
       let is = passes.passed in
       let First : Option ℕ → List A → Type 0 =
       λ ended rest. AreFirstOf start.sought (chars start.haystack) left ended rest in
@@ -55,17 +55,17 @@ module _ {S A : Type 0} (found_of : A → Found)
         sought = ap (λ a. a.sought) is ∙ so.sought;
         haystack = ap (λ a. a.haystack) is ∙ so.haystack;
         on = λ rest are.
-            subst (AreFirstOf start.sought (chars start.haystack) room start.ended)
+            subst (AreFirstOf start.sought (chars start.haystack) buffer start.ended)
             (sym (append_assoc list (answer ∷ []) rest))
             (so.on (answer ∷ rest)
             (comes, subst (λ ended. First ended rest) (ap (λ a. a.ended) is) are));
       }
 
-  pub lists_all : (start a : AheadOf S) (room : ℕ) (list : List A)
-      → ListsAnswers start a room 0 list
-      → AreFirstOf start.sought (chars start.haystack) room start.ended list
-  lists_all start a room list so =
-      subst (AreFirstOf start.sought (chars start.haystack) room start.ended) (append-nil list)
+  pub lists_all : (start a : AheadOf S) (buffer : ℕ) (list : List A)
+      → ListsAnswers start a buffer 0 list
+      → AreFirstOf start.sought (chars start.haystack) buffer start.ended list
+  lists_all start a buffer list so =
+      subst (AreFirstOf start.sought (chars start.haystack) buffer start.ended) (append-nil list)
       (so.on [] refl)
 
   none_left : (sought : S) (haystack : Text) (left : ℕ) (ended : Option ℕ)
@@ -79,44 +79,44 @@ module _ {S A : Type 0} (found_of : A → Found)
   comes_none a limit (inl zero_left) = absurd cc
   comes_none a limit (inr next) = next
 
-  pub lists_to_end : (start a : AheadOf S) (room left : ℕ) (list : List A)
-      → ListsAnswers start a room left list → NoneIsAhead found_of IsAnswerTo a
-      → AreFirstOf start.sought (chars start.haystack) room start.ended list
-  lists_to_end start a room left list so over =
+  pub lists_to_end : (start a : AheadOf S) (buffer left : ℕ) (list : List A)
+      → ListsAnswers start a buffer left list → NoneIsAhead found_of IsAnswerTo a
+      → AreFirstOf start.sought (chars start.haystack) buffer start.ended list
+  lists_to_end start a buffer left list so over =
       let Next : S → List ℕ → Type 0 =
       λ sought bytes. IsNextAnswer found_of (IsAnswerTo sought (chars bytes)) a.ended None in
       let here : Next start.sought start.haystack =
       subst (λ sought. Next sought start.haystack) so.sought
       (subst (λ bytes. Next a.sought bytes) so.haystack (comes_none a so.limit over)) in
-      subst (AreFirstOf start.sought (chars start.haystack) room start.ended) (append-nil list)
+      subst (AreFirstOf start.sought (chars start.haystack) buffer start.ended) (append-nil list)
       (so.on [] (none_left start.sought (chars start.haystack) left a.ended here))
 
 -- so of the matches of a regex
-abbrev pub Lists : (start a : Ahead) (room left : ℕ) (list : List Found) → Type 0
-Lists start a room left list = ListsAnswers (λ own. own) IsAnswerOf start a room left list
+abbrev pub Lists : (start a : Ahead) (buffer left : ℕ) (list : List Found) → Type 0
+Lists start a buffer left list = ListsAnswers (λ own. own) IsAnswerOf start a buffer left list
 
 -- one more was written
-pub written_more : {X Y : Type 0} (stands_for : Y → X) (told : List Y) (one : Y)
+pub written_more : {X Y : Type 0} (stands_for : Y → X) (reported : List Y) (one : Y)
     (old now : List X) (n : ℕ) (s : X)
-    → AreWrittenAs stands_for told old now → length told ≡ n → n < length now → s ≡ stands_for one
-    → AreWrittenAs stands_for (told ++ (one ∷ [])) old (slice_set now n s)
-written_more stands_for told one old now n s is number below same =
-    let longer = length-append told (one ∷ []) in
+    → AreWrittenAs stands_for reported old now → length reported ≡ n → n < length now → s
+    ≡ stands_for one → AreWrittenAs stands_for (reported ++ (one ∷ [])) old (slice_set now n s)
+written_more stands_for reported one old now n s is number below same =
+    let longer = length-append reported (one ∷ []) in
     record {
       each = λ k lt. elim (cases_lt k n) [
         | inl before ↦
             set_elsewhere now n k s (λ e. omega (arith, e, before))
             ∙ is.each k (omega (arith, number, before))
             ∙ ap (option_map stands_for)
-            (sym (get_left told (one ∷ []) k (omega (arith, number, before))))
+            (sym (get_left reported (one ∷ []) k (omega (arith, number, before))))
         | inr after ↦
             let here : k ≡ n = omega (arith, after, lt, longer, number) in
             subst (λ j. slice_get (slice_set now n s) j
-            ≡ option_map stands_for (slice_get (told ++ (one ∷ [])) j)) (sym here)
+            ≡ option_map stands_for (slice_get (reported ++ (one ∷ [])) j)) (sym here)
             (set_here now n s below ∙ ap Some same
             ∙ ap (option_map stands_for)
-            (sym (subst (λ j. slice_get (told ++ (one ∷ [])) j ≡ Some one) number
-            (get_seam told one []))))
+            (sym (subst (λ j. slice_get (reported ++ (one ∷ [])) j ≡ Some one) number
+            (get_seam reported one []))))
       ];
       rest = λ k le.
           set_elsewhere now n k s (λ e. omega (arith, e, le, longer, number))
@@ -164,7 +164,7 @@ module _ {S A X Y : Type 0} (found_of : A → Found)
         lists = lists_more found_of IsAnswerTo start a next (length old) left so.list answer
             (subst (λ n. ListsAnswers found_of IsAnswerTo start a (length old) n so.list) less
             so.lists) passes;
-        written = subst (λ told. AreWrittenAs stands_for told old (slice_set now k s))
+        written = subst (λ reported. AreWrittenAs stands_for reported old (slice_set now k s))
             (sym (map-append own so.list (answer ∷ [])))
             (written_more stands_for (map own so.list) (own answer) old now k s so.written
             (length-map so.list own ∙ so.number) (omega (arith, below, len)) is);

@@ -21,7 +21,7 @@ impl<'r> Search for Anchored<'r, RegexList> {
 
     type Span = ListSpan;
 
-    type Told = ListGroups;
+    type Reported = ListGroups;
 
     ghost search = { anchored_patterns_search };
 
@@ -107,18 +107,18 @@ pub extern "C" fn regex_lite_list_captures_anchored(
     text: &[u8],
     start: usize,
     spans: &mut [Span],
-    told: &mut ListGroups,
+    reported: &mut ListGroups,
 ) -> u32
     ensures same { handle.new.value ≡ handle.old.value }
     ensures nothing_held { handle.old.value ≡ None → (result ≡ NOTHING_HELD)
-        × (spans.new ≡ spans.old) × (told.new ≡ told.old) }
+        × (spans.new ≡ spans.old) × (reported.new ≡ reported.old) }
     ensures answer { IfSome handle.old.value (λ list. IsAnchoredListGroupsAnswer list text.now
-        start spans.old spans.new told.old told.new result) }
+        start spans.old spans.new reported.old reported.new result) }
 {
     let Some(list) = handle.take(alloc) else {
         return NOTHING_HELD;
     };
-    let answer = captures(&Anchored { sought: &*list }, text, start, spans, told);
+    let answer = captures(&Anchored { sought: &*list }, text, start, spans, reported);
     handle.put(list);
     answer
 }

@@ -5,7 +5,7 @@ ghost use Rattle.regex_lite_syntax.specs.Errors.{out_of_memory};
 ghost use Rattle.regex_lite.specs.Expression.{expression_of};
 ghost use Rattle.regex_lite.specs.RegexList.{AreAccepted, BuildsList};
 ghost use Rattle.regex_lite_c.specs.ListBuilding.{AreAllBytes, AreTexts, IsDueAt, IsEachAccepted};
-ghost use Rattle.regex_lite_c.specs.ListBuilding.{IsListBuildAnswer, IsRefusedAs, IsTold};
+ghost use Rattle.regex_lite_c.specs.ListBuilding.{IsListBuildAnswer, IsRefusedAs, IsReported};
 ghost use Rattle.regex_lite_c.specs.ListBuilding.{settings_of_all, settings_of_source};
 
 use crate::answer::{BAD_OFFSET, NOT_TEXT, YES, number_of};
@@ -149,8 +149,8 @@ fn why_refused(alloc: Global, sources: &[PatternSource<'_>], error: Error) -> Re
 /// patterns, if memory runs out before that.
 fn lowest_refused(alloc: Global, sources: &[PatternSource<'_>]) -> Option<(usize, Error)>
     ensures { MatchOption result (IsEachAccepted (map settings_of_source sources.now))
-        (λ told. IsDueAt (map settings_of_source sources.now) told.0 told.1
-        × (AreAccepted (map settings_of_source sources.now) → told.1 ≡ out_of_memory)) }
+        (λ reported. IsDueAt (map settings_of_source sources.now) reported.0 reported.1
+        × (AreAccepted (map settings_of_source sources.now) → reported.1 ≡ out_of_memory)) }
 {
     for k in 0..sources.len() {
         let source = &sources[k];
@@ -173,18 +173,18 @@ fn number_for(error: &Error, number: usize, count: usize) -> usize
 }
 
 /// Writes the reason why patterns are rejected, and returns its number.
-fn tell(refused: &Refused, message: &mut [u8], told: &mut ListRefusal) -> u32
-    requires { told.old.message_len ≡ 0 }
-    ensures { IsTold refused.now result told.new message.old message.new }
+fn tell(refused: &Refused, message: &mut [u8], reported: &mut ListRefusal) -> u32
+    requires { reported.old.message_len ≡ 0 }
+    ensures { IsReported refused.now result reported.new message.old message.new }
 {
     match refused {
         Refused::NotText(number) => {
-            told.number = *number;
+            reported.number = *number;
             NOT_TEXT
         }
         Refused::By(number, error) => {
-            told.number = *number;
-            write_message(error, message, &mut told.message_len);
+            reported.number = *number;
+            write_message(error, message, &mut reported.message_len);
             number_of(error)
         }
     }

@@ -1,6 +1,6 @@
 //! The groups of all matches of several patterns in a text, in batches.
 ghost use Rattle.std.specs.Prelude.{◌≡◌, IfSome, None};
-ghost use Rattle.regex_lite_c.specs.GroupWalks.{IsListGroupWalkAnswer, list_group_room};
+ghost use Rattle.regex_lite_c.specs.GroupWalks.{IsListGroupWalkAnswer, list_group_buffer};
 
 use crate::answer::NOTHING_HELD;
 use crate::group_walk::captures_all;
@@ -26,23 +26,23 @@ pub extern "C" fn regex_lite_list_captures_all(
     handle: &mut ListHandle,
     text: &[u8],
     walk: &mut MatchWalk,
-    told: &mut [ListGroups],
+    reported: &mut [ListGroups],
     spans: &mut [Span],
     count: &mut usize,
 ) -> u32
     ensures same { handle.new.value ≡ handle.old.value }
     ensures nothing_held { handle.old.value ≡ None → (result ≡ NOTHING_HELD)
-        × (walk.new ≡ walk.old) × (told.new ≡ told.old) × (spans.new ≡ spans.old)
+        × (walk.new ≡ walk.old) × (reported.new ≡ reported.old) × (spans.new ≡ spans.old)
         × (count.new ≡ 0) }
     ensures answer { IfSome handle.old.value (λ list. IsListGroupWalkAnswer list text.now
-        (list_group_room walk.old told.old spans.old)
-        (list_group_room walk.new told.new spans.new) count.new result) }
+        (list_group_buffer walk.old reported.old spans.old)
+        (list_group_buffer walk.new reported.new spans.new) count.new result) }
 {
     *count = 0;
     let Some(list) = handle.take(alloc) else {
         return NOTHING_HELD;
     };
-    let (answer, number) = captures_all(&*list, text, walk, told, spans);
+    let (answer, number) = captures_all(&*list, text, walk, reported, spans);
     *count = number;
     handle.put(list);
     answer

@@ -29,7 +29,7 @@ impl<'r> Search for Listed<'r> {
 
     type Span = Span;
 
-    type Told = usize;
+    type Reported = usize;
 
     ghost can_search = { λ own. own.number < length own.list.now };
 

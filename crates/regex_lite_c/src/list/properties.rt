@@ -4,11 +4,11 @@ ghost use Rattle.regex_lite_syntax.specs.Tree.Properties.{nullable};
 ghost use Rattle.regex_lite.specs.Expression.{OfTree};
 ghost use Rattle.regex_lite.specs.RegexList.{OfTrees};
 ghost use Rattle.regex_lite_engine.specs.Graph.SideBySide.{arrows_of_all, places_of_all};
-ghost use Rattle.regex_lite_c.specs.Rooms.{IsPatternAnswer};
+ghost use Rattle.regex_lite_c.specs.Buffers.{IsPatternAnswer};
 
 use crate::answer::{NO, NO_PATTERN, NOTHING_HELD, YES, answer_of};
+use crate::buffer;
 use crate::handle::{ListHandle, ask};
-use crate::room;
 use regex_lite::RegexList;
 use std::alloc::Global;
 
@@ -27,19 +27,19 @@ pub extern "C" fn regex_lite_list_pattern_at(
     alloc: Global,
     handle: &mut ListHandle,
     number: usize,
-    room: &mut [u8],
+    buffer: &mut [u8],
     len: &mut usize,
 ) -> u32
     ensures same { handle.new.value ≡ handle.old.value }
     ensures nothing_held { handle.old.value ≡ None
-        → (result ≡ NOTHING_HELD) × (room.new ≡ room.old) × (len.new ≡ len.old) }
+        → (result ≡ NOTHING_HELD) × (buffer.new ≡ buffer.old) × (len.new ≡ len.old) }
     ensures answer { IfSome handle.old.value (λ list.
-        IsPatternAnswer list number room.old room.new len.old len.new result) }
+        IsPatternAnswer list number buffer.old buffer.new len.old len.new result) }
 {
-    room::write_from(
+    buffer::write_from(
         alloc,
         handle,
-        room,
+        buffer,
         len,
         |list| list.as_str(number).ok_or(NO),
     )

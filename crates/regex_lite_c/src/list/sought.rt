@@ -45,7 +45,7 @@ impl Search for RegexList {
 
     type Span = ListSpan;
 
-    type Told = ListGroups;
+    type Reported = ListGroups;
 
     ghost search = { patterns_search };
 
@@ -77,8 +77,8 @@ impl Search for RegexList {
 
 impl Sought for RegexList {
     fn counted_span(&self, text: &str, start: usize) -> Result<(Option<ListSpan>, Cost), Error> {
-        let (told, steps) = self.find_counted_at(text, start)?;
-        match told {
+        let (reported, steps) = self.find_counted_at(text, start)?;
+        match reported {
             Some((number, found)) => Ok((Some(ListSpan::of(number, &found)), Cost::of(steps))),
             None => Ok((None, Cost::of(steps))),
         }
@@ -98,11 +98,11 @@ impl Sought for RegexList {
         &self,
         text: &str,
         walk: &mut MatchWalk,
-        told: &mut [ListGroups],
+        reported: &mut [ListGroups],
         spans: &mut [Span],
     ) -> (u32, usize) {
         match self.captures_iter_after(text, walk.ended()) {
-            Ok(mut items) => fill_groups(&mut items, walk, told, spans),
+            Ok(mut items) => fill_groups(&mut items, walk, reported, spans),
             Err(_) => (OUT_OF_MEMORY, 0),
         }
     }

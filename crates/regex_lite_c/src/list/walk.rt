@@ -1,6 +1,6 @@
 //! All matches of several patterns in a text, in batches.
 ghost use Rattle.std.specs.Prelude.{◌≡◌, IfSome, None};
-ghost use Rattle.regex_lite_c.specs.Walks.{IsListWalkAnswer, walk_room};
+ghost use Rattle.regex_lite_c.specs.Walks.{IsListWalkAnswer, walk_buffer};
 
 use crate::answer::NOTHING_HELD;
 use crate::handle::{Holds, ListHandle};
@@ -29,7 +29,7 @@ pub extern "C" fn regex_lite_list_find_all(
     ensures nothing_held { handle.old.value ≡ None → (result ≡ NOTHING_HELD)
         × (walk.new ≡ walk.old) × (spans.new ≡ spans.old) × (count.new ≡ 0) }
     ensures answer { IfSome handle.old.value (λ list. IsListWalkAnswer list text.now
-        (walk_room walk.old spans.old) (walk_room walk.new spans.new) count.new result) }
+        (walk_buffer walk.old spans.old) (walk_buffer walk.new spans.new) count.new result) }
 {
     *count = 0;
     let Some(list) = handle.take(alloc) else {

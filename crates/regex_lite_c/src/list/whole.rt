@@ -21,7 +21,7 @@ impl<'r> Search for Whole<'r, RegexList> {
 
     type Span = ListSpan;
 
-    type Told = ListGroups;
+    type Reported = ListGroups;
 
     ghost search = { whole_patterns_search };
 
@@ -105,18 +105,18 @@ pub extern "C" fn regex_lite_list_full_captures(
     handle: &mut ListHandle,
     text: &[u8],
     spans: &mut [Span],
-    told: &mut ListGroups,
+    reported: &mut ListGroups,
 ) -> u32
     ensures same { handle.new.value ≡ handle.old.value }
     ensures nothing_held { handle.old.value ≡ None → (result ≡ NOTHING_HELD)
-        × (spans.new ≡ spans.old) × (told.new ≡ told.old) }
+        × (spans.new ≡ spans.old) × (reported.new ≡ reported.old) }
     ensures answer { IfSome handle.old.value (λ list. IsWholeListGroupsAnswer list text.now
-        spans.old spans.new told.old told.new result) }
+        spans.old spans.new reported.old reported.new result) }
 {
     let Some(list) = handle.take(alloc) else {
         return NOTHING_HELD;
     };
-    let answer = captures(&Whole { sought: &*list }, text, 0, spans, told);
+    let answer = captures(&Whole { sought: &*list }, text, 0, spans, reported);
     handle.put(list);
     answer
 }

@@ -40,7 +40,7 @@ impl Search for Regex {
 
     type Span = Span;
 
-    type Told = usize;
+    type Reported = usize;
 
     ghost search = { regex_search };
 
@@ -90,11 +90,11 @@ impl Sought for Regex {
         &self,
         text: &str,
         walk: &mut MatchWalk,
-        told: &mut [usize],
+        reported: &mut [usize],
         spans: &mut [Span],
     ) -> (u32, usize) {
         match self.captures_iter_after(text, walk.ended()) {
-            Ok(mut items) => fill_groups(&mut items, walk, told, spans),
+            Ok(mut items) => fill_groups(&mut items, walk, reported, spans),
             Err(_) => (OUT_OF_MEMORY, 0),
         }
     }

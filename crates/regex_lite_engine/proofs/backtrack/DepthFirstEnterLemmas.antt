@@ -4,23 +4,24 @@ use Rattle.regex_lite_engine.proofs.Common.{IsTrue, Some, None, Option, sym, ref
 use Rattle.regex_lite_engine.proofs.Common.{inl, inr, cases_lt, NotAfter, StartsAt, StartsBelow}
 use Rattle.regex_lite_engine.specs.Backtrack.DepthFirst as walk
 use Rattle.regex_lite_engine.specs.Search.Explored as explored
-use Rattle.regex_lite_engine.specs.Search.Offers as offered
+use Rattle.regex_lite_engine.specs.Search.Pending as is_pending
 use Rattle.regex_lite_engine.proofs.backtrack.DepthFirstLemmas.{at_starts}
 use Rattle.regex_lite_engine.proofs.laws.search.Explored as over
 use Rattle.regex_lite_engine.proofs.laws.search.WayOrderLemmas.{NotAfter-trans, NotAfter-append}
 use Rattle.regex_lite_engine.proofs.search.RecordLemmas.{or_dead}
-use Rattle.regex_lite_engine.proofs.search.OfferLemmas as order
-use Rattle.regex_lite_engine.proofs.search.OfferLemmas.{preferred_before, below_front, below_append}
+use Rattle.regex_lite_engine.proofs.search.PendingLemmas as order
+use Rattle.regex_lite_engine.proofs.search.PendingLemmas.{preferred_before, below_front}
+use Rattle.regex_lite_engine.proofs.search.PendingLemmas.{below_append}
 use Rattle.regex_lite_syntax.proofs.OptionLemmas.{not_there}
 use Rattle.regex_lite_engine.proofs.search.RecordLemmas as records
 
 module _ (N : Type 0) (step : N → ℕ → Option N) (start : ℕ → N) (is_end : N → Bool)
     (first last : ℕ) where
-  abbrev Offer : Type 0
-  Offer = offered.Offer N
+  abbrev PendingNode : Type 0
+  PendingNode = is_pending.PendingNode N
 
-  abbrev In : N → List ℕ → List Offer → Type 0
-  In = offered.In N
+  abbrev In : N → List ℕ → List PendingNode → Type 0
+  In = is_pending.In N
 
   abbrev Recorded : Type 0
   Recorded = N → Option (List ℕ)
@@ -37,11 +38,11 @@ module _ (N : Type 0) (step : N → ℕ → Option N) (start : ℕ → N) (is_en
   abbrev IsExplored : Recorded → Option (List ℕ) → Type 0
   IsExplored = over.IsExplored N step is_end (StartsAt start first last)
 
-  abbrev IsDepthFirst : ℕ → Recorded → List Offer → Type 0
+  abbrev IsDepthFirst : ℕ → Recorded → List PendingNode → Type 0
   IsDepthFirst = walk.IsDepthFirst N step start is_end first last
 
   module _ (same : (x y : N) → (x ≡ y) ⊎ (x ≡ y → ⊥)) (from : ℕ) (recorded : Recorded) (n : N)
-      (w : List ℕ) (fresh : recorded n ≡ None) (rest : List Offer)
+      (w : List ℕ) (fresh : recorded n ≡ None) (rest : List PendingNode)
       (u : IsDepthFirst from recorded ((n, w) ∷ rest)) where
     abbrev extended : Recorded
     extended = records.extended N same recorded n w
@@ -66,17 +67,17 @@ module _ (N : Type 0) (step : N → ℕ → Option N) (start : ℕ → N) (is_en
     grown_extended : (m : N) (v : List ℕ) → extended m ≡ Some v → IsGrown extended None m v
     grown_extended =
         records.grown_extended N same recorded n w fresh step is_end (StartsAt start first last)
-        None u.grown (u.offers_grown n w here)
+        None u.grown (u.pending_grown n w here)
 
     -- a place that was not entered, and where no match is complete, is entered: its arrows come
     -- first of what is left
     module _ (width : ℕ) (no_more : (k : ℕ) → width ≤ k → step n k ≡ None) where
-      abbrev own : List Offer
-      own = order.offers N step n w width 0
+      abbrev own : List PendingNode
+      own = order.pending N step n w width 0
 
       one_of : (m : N) (v : List ℕ) → In m v own
           → (j : ℕ) × (0 ≤ j) × (step n j ≡ Some m) × (v ≡ w ++ j ∷ [])
-      one_of = order.offered N step n w width 0
+      one_of = order.is_pending N step n w width 0
 
       either : (m : N) (v : List ℕ) → In m v (own ++ rest) → In m v own ⊎ In m v rest
       either m v = order.in_either N step m v own rest
@@ -84,18 +85,18 @@ module _ (N : Type 0) (step : N → ℕ → Option N) (start : ℕ → N) (is_en
       pub depth_first_entered : (IsTrue (is_end n) → ⊥) → IsDepthFirst from extended (own ++ rest)
       depth_first_entered no_match = record {
         grown = grown_extended;
-        offers_grown = λ m v i. by_grown m v (either m v i);
+        pending_grown = λ m v i. by_grown m v (either m v i);
         starts = λ i low high lt. or_dead (settle (start i) (i ∷ [])) (u.starts i low high lt);
         arrows = λ m v k l r s. by_arrow m v k l s (back m v r);
         no_end = λ m v e r. by_end m v e (back m v r);
-        ordered = order.offers_ordered N step n w width 0 rest u.ordered.1 u.ordered.0;
+        ordered = order.pending_ordered N step n w width 0 rest u.ordered.1 u.ordered.0;
         ahead = λ m v l x i r. by_ahead m v l x (either m v i) (back l x r);
-        offers_below = λ m v i. by_below m v (either m v i);
+        pending_below = λ m v i. by_below m v (either m v i);
         recorded_below = λ m v r. by_recorded m v (back m v r);
       }
         where
           by_grown : (m : N) (v : List ℕ) → In m v own ⊎ In m v rest → IsGrown extended None m v
-          by_grown m v (inr i) = grown_still m v (u.offers_grown m v (inr i))
+          by_grown m v (inr i) = grown_still m v (u.pending_grown m v (inr i))
           by_grown m v (inl i) = let r = one_of m v i in inr (n, w, r.0, extended_here, r.2, r.3)
 
           settle : (m : N) (v : List ℕ) → IsAnswered recorded None m v ⊎ In m v ((n, w) ∷ rest)
@@ -108,7 +109,7 @@ module _ (N : Type 0) (step : N → ℕ → Option N) (start : ℕ → N) (is_en
           arrow_of : (k : ℕ) (l : N) → step n k ≡ Some l → In l (w ++ k ∷ []) (own ++ rest)
           arrow_of k l s =
               order.in_left N step l (w ++ k ∷ []) own rest
-              (order.arrow_offered N step n w width no_more k l s)
+              (order.arrow_is_pending N step n w width no_more k l s)
 
           by_arrow : (m : N) (v : List ℕ) (k : ℕ) (l : N) → step m k ≡ Some l
               → ((m ≡ n) × (v ≡ w)) ⊎ (recorded m ≡ Some v)
@@ -139,16 +140,16 @@ module _ (N : Type 0) (step : N → ℕ → Option N) (start : ℕ → N) (is_en
           by_ahead m v l x (inr i) (inr q) = u.ahead m v l x (inr i) q
 
           by_below : (m : N) (v : List ℕ) → In m v own ⊎ In m v rest → StartsBelow from v
-          by_below m v (inr i) = u.offers_below m v (inr i)
+          by_below m v (inr i) = u.pending_below m v (inr i)
           by_below m v (inl i) =
               let r = one_of m v i in
               subst (λ z. StartsBelow from z) (sym r.3)
-              (below_append from w (r.0 ∷ []) (u.offers_below n w here))
+              (below_append from w (r.0 ∷ []) (u.pending_below n w here))
 
           by_recorded : (m : N) (v : List ℕ) → ((m ≡ n) × (v ≡ w)) ⊎ (recorded m ≡ Some v)
               → StartsBelow from v
           by_recorded m v (inl e) =
-              subst (λ z. StartsBelow from z) (sym e.1) (u.offers_below n w here)
+              subst (λ z. StartsBelow from z) (sym e.1) (u.pending_below n w here)
           by_recorded m v (inr r) = u.recorded_below m v r
 
     -- a match is complete there: it is the best, and all that is left is after it
@@ -180,7 +181,7 @@ module _ (N : Type 0) (step : N → ℕ → Option N) (start : ℕ → N) (is_en
         by_place i low high (inl lt) =
             or_dead (settle (start i) (i ∷ [])) (u.starts i low high lt)
         by_place i low high (inr le) =
-            let below = u.offers_below n w here in
+            let below = u.pending_below n w here in
             inl (inr (w, refl, preferred_before w (i ∷ []) (below_front from i [] w below le)))
 
         by_arrow : (m : N) (v : List ℕ) (k : ℕ) (l : N) → step m k ≡ Some l

@@ -6,19 +6,19 @@ use Rattle.regex_lite_engine.proofs.Common.{arith, cases_eq, cases_lt, NotAfter,
 use Rattle.regex_lite_engine.proofs.Common.{StartsBelow}
 use Rattle.regex_lite_engine.specs.Backtrack.DepthFirst as walk
 use Rattle.regex_lite_engine.specs.Search.Explored as explored
-use Rattle.regex_lite_engine.specs.Search.Offers as offered
+use Rattle.regex_lite_engine.specs.Search.Pending as is_pending
 use Rattle.regex_lite_engine.proofs.search.RecordLemmas.{or_dead}
 use Rattle.regex_lite_engine.proofs.laws.search.Explored as over
-use Rattle.regex_lite_engine.proofs.search.OfferLemmas.{preferred_before, below_front, below_up}
+use Rattle.regex_lite_engine.proofs.search.PendingLemmas.{preferred_before, below_front, below_up}
 use Rattle.regex_lite_syntax.proofs.OptionLemmas.{not_there}
 
 module _ (N : Type 0) (step : N → ℕ → Option N) (start : ℕ → N) (is_end : N → Bool)
     (first last : ℕ) where
-  abbrev Offer : Type 0
-  Offer = offered.Offer N
+  abbrev PendingNode : Type 0
+  PendingNode = is_pending.PendingNode N
 
-  abbrev In : N → List ℕ → List Offer → Type 0
-  In = offered.In N
+  abbrev In : N → List ℕ → List PendingNode → Type 0
+  In = is_pending.In N
 
   abbrev Recorded : Type 0
   Recorded = N → Option (List ℕ)
@@ -32,7 +32,7 @@ module _ (N : Type 0) (step : N → ℕ → Option N) (start : ℕ → N) (is_en
   abbrev IsExplored : Recorded → Option (List ℕ) → Type 0
   IsExplored = over.IsExplored N step is_end (StartsAt start first last)
 
-  abbrev IsDepthFirst : ℕ → Recorded → List Offer → Type 0
+  abbrev IsDepthFirst : ℕ → Recorded → List PendingNode → Type 0
   IsDepthFirst = walk.IsDepthFirst N step start is_end first last
 
   -- what holds at each position's start holds at each start
@@ -47,13 +47,13 @@ module _ (N : Type 0) (step : N → ℕ → Option N) (start : ℕ → N) (is_en
       → IsDepthFirst first recorded []
   depth_first_begun recorded nothing = record {
     grown = λ n w r. absurd (none n w r);
-    offers_grown = λ n w i. absurd i;
+    pending_grown = λ n w i. absurd i;
     starts = λ i low high lt. absurd (omega (arith, low, lt));
     arrows = λ n w k m r s. absurd (none n w r);
     no_end = λ n w e r. none n w r;
     ordered = tt;
     ahead = λ n w m v i r. absurd i;
-    offers_below = λ n w i. absurd i;
+    pending_below = λ n w i. absurd i;
     recorded_below = λ m v r. absurd (none m v r);
   }
     where
@@ -62,17 +62,17 @@ module _ (N : Type 0) (step : N → ℕ → Option N) (start : ℕ → N) (is_en
 
   -- what was entered before is passed over
   pub depth_first_passed : (from : ℕ) (recorded : Recorded) (n : N) (w v : List ℕ)
-      (rest : List Offer) → recorded n ≡ Some v → IsDepthFirst from recorded ((n, w) ∷ rest)
+      (rest : List PendingNode) → recorded n ≡ Some v → IsDepthFirst from recorded ((n, w) ∷ rest)
       → IsDepthFirst from recorded rest
   depth_first_passed from recorded n w v rest r u = record {
     grown = u.grown;
-    offers_grown = λ m x i. u.offers_grown m x (inr i);
+    pending_grown = λ m x i. u.pending_grown m x (inr i);
     starts = λ i low high lt. or_dead (settle (start i) (i ∷ [])) (u.starts i low high lt);
     arrows = λ m x k l s t. settle l (x ++ k ∷ []) (u.arrows m x k l s t);
     no_end = u.no_end;
     ordered = u.ordered.1;
     ahead = λ m x l y i s. u.ahead m x l y (inr i) s;
-    offers_below = λ m x i. u.offers_below m x (inr i);
+    pending_below = λ m x i. u.pending_below m x (inr i);
     recorded_below = u.recorded_below;
   }
     where
@@ -93,7 +93,7 @@ module _ (N : Type 0) (step : N → ℕ → Option N) (start : ℕ → N) (is_en
       → IsDepthFirst (suc p) recorded ((start p, p ∷ []) ∷ [])
   depth_first_started from p recorded later low high dead u = record {
     grown = u.grown;
-    offers_grown = λ n w i. inl (p, low, high, (only n w i).1, (only n w i).0);
+    pending_grown = λ n w i. inl (p, low, high, (only n w i).1, (only n w i).0);
     starts = λ i above below lt. by_place i above below lt (cases_eq i p) (cases_lt i from);
     arrows = λ n w k m r s. settle m (w ++ k ∷ []) (u.arrows n w k m r s);
     no_end = u.no_end;
@@ -101,7 +101,7 @@ module _ (N : Type 0) (step : N → ℕ → Option N) (start : ℕ → N) (is_en
     ahead = λ n w m v i r. subst (λ z. NotAfter v z) (sym (only n w i).1)
         (inr
         (preferred_before v (p ∷ []) (below_front from p [] v (u.recorded_below m v r) later)));
-    offers_below = λ n w i. subst (λ z. StartsBelow (suc p) z) (sym (only n w i).1) (omega arith);
+    pending_below = λ n w i. subst (λ z. StartsBelow (suc p) z) (sym (only n w i).1) (omega arith);
     recorded_below = λ m v r.
         below_up from (suc p) v (omega (arith, later)) (u.recorded_below m v r);
   }

@@ -10,7 +10,7 @@ use Rattle.regex_lite_engine.proofs.Common.{SearchFrom, Arrow, with_arrows, read
 use Rattle.regex_lite_engine.proofs.Common.{go_marking, go_holding, go_reading, one_of, arrived}
 use Rattle.regex_lite_engine.proofs.Common.{step_from, arrow_count, place_of, Marks, marked, over}
 use Rattle.regex_lite_engine.proofs.Common.{mark_of, place_with, is_complete, numbered_step}
-use Rattle.regex_lite_engine.proofs.Common.{IsNumberedOutcome, Node, Offer, offset, IsOffset}
+use Rattle.regex_lite_engine.proofs.Common.{IsNumberedOutcome, Node, PendingNode, offset, IsOffset}
 use Rattle.regex_lite_engine.proofs.Common.{HasSlots, Row}
 use Rattle.std.proofs.lemmas.List.{set-set}
 use Rattle.regex_lite_syntax.specs.Text.{before}
@@ -23,8 +23,8 @@ use Rattle.regex_lite_engine.specs.Graph.Places.{Place}
 use Rattle.regex_lite_engine.specs.Backtrack.Walking.{IsWalking}
 use Rattle.regex_lite_engine.proofs.OffsetLemmas.{offset_next}
 use Rattle.regex_lite_engine.proofs.backtrack.WalkLemmas.{walk_entered, walk_complete}
-use Rattle.regex_lite_engine.proofs.search.PlaceLemmas.{free_marks, hops, none_offered, one_blocked}
-use Rattle.regex_lite_engine.proofs.search.PlaceLemmas.{open_at, one, offered_by}
+use Rattle.regex_lite_engine.proofs.search.PlaceLemmas.{free_marks, hops, none_is_pending}
+use Rattle.regex_lite_engine.proofs.search.PlaceLemmas.{one_blocked, open_at, one, is_pending_by}
 use Rattle.regex_lite_engine.proofs.search.MarkLemmas.{slots_set, slots_past}
 use Rattle.regex_lite_engine.proofs.backtrack.NumberedLemmas.{holds_on}
 
@@ -52,14 +52,14 @@ module _ (table : List (Place ℕ)) (search : SearchFrom) (pairs : Pairs) (held 
   Walks row' frames' =
       IsWalking table search pairs_now (record held { row = row'; frames = frames' })
 
-  abbrev FramesHold : Row → List Frame → List (Offer Node) → Type 0
+  abbrev FramesHold : Row → List Frame → List (PendingNode Node) → Type 0
   FramesHold = walk.FramesHold table haystack search.entry search.i
 
   abbrev Holds : Row → Node → List ℕ → Type 0
   Holds = WayHolds table haystack search.entry search.i
 
-  abbrev listed : List ℕ → ℕ → ℕ → List (Offer Node)
-  listed = offered_by table haystack (place_with table q) p
+  abbrev listed : List ℕ → ℕ → ℕ → List (PendingNode Node)
+  listed = is_pending_by table haystack (place_with table q) p
 
   -- the row then has what arrow k marks
   abbrev Marking : ℕ → Row → Type 0
@@ -73,8 +73,8 @@ module _ (table : List (Place ℕ)) (search : SearchFrom) (pairs : Pairs) (held 
 
   goes_on : (arrows : List (Arrow ℕ)) (row' : Row) (frames' : List Frame)
       → place_with table q ≡ with_arrows arrows
-      → ((w : List ℕ) (rest : List (Offer Node)) → Holds row (q, p) w → FramesHold row frames rest
-      → FramesHold row' frames' (listed w (length arrows) 0 ++ rest))
+      → ((w : List ℕ) (rest : List (PendingNode Node)) → Holds row (q, p) w → FramesHold row frames
+      rest → FramesHold row' frames' (listed w (length arrows) 0 ++ rest))
       → Walks row' frames'
   goes_on arrows row' frames' e hold' =
       walk_entered table search pairs held q p at inside low is_offset u new all begins short
@@ -88,7 +88,7 @@ module _ (table : List (Place ℕ)) (search : SearchFrom) (pairs : Pairs) (held 
   walk_blocked arrows e blocked =
       goes_on arrows row frames e
       (λ w rest holds waits. subst (λ z. FramesHold row frames (z ++ rest))
-      (sym (none_offered table haystack q p blocked w (length arrows) 0)) waits)
+      (sym (none_is_pending table haystack q p blocked w (length arrows) 0)) waits)
 
   -- free arrows
   walk_choice : (to : List ℕ) → place_with table q ≡ with_arrows (map go to)
@@ -99,7 +99,7 @@ module _ (table : List (Place ℕ)) (search : SearchFrom) (pairs : Pairs) (held 
       (λ c. FramesHold row (map (λ l. explore l at) to ++ frames) (listed w c 0 ++ rest))
       (sym (length-map to go)) (each to 0 w rest (hops table haystack q p to e) holds waits))
     where
-      each : (qs : List ℕ) (k : ℕ) (w : List ℕ) (rest : List (Offer Node))
+      each : (qs : List ℕ) (k : ℕ) (w : List ℕ) (rest : List (PendingNode Node))
           → ((t l : ℕ) → slice_get qs t ≡ Some l
           → numbered_step table haystack (q, p) (k + t) ≡ Some (l, p))
           → Holds row (q, p) w → FramesHold row frames rest
@@ -136,8 +136,8 @@ module _ (table : List (Place ℕ)) (search : SearchFrom) (pairs : Pairs) (held 
       → place_with table q ≡ with_arrows (arrow ∷ [])
       → numbered_step table haystack (q, p) 0 ≡ Some (to, j) → IsOffset haystack j last
       → Marking 0 row'
-      → ((rest : List (Offer Node)) → FramesHold row frames rest → FramesHold row' frames' rest)
-      → Walks row' (explore to last ∷ frames')
+      → ((rest : List (PendingNode Node)) → FramesHold row frames rest → FramesHold row' frames'
+      rest) → Walks row' (explore to last ∷ frames')
   walk_single arrow to j last row' frames' e here is_last marking waits' =
       goes_on (arrow ∷ []) row' (explore to last ∷ frames') e
       (λ w rest holds waits. subst

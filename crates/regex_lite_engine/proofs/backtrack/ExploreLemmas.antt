@@ -1,17 +1,17 @@
 -- From one start to the end of its ways.
 use Rattle.regex_lite_engine.proofs.Common.{◌≡◌, ℕ, ◌+◌, ◌≤◌, List, [], ◌∷◌, length, Some, None}
 use Rattle.regex_lite_engine.proofs.Common.{Option, sym, refl, ◌∙◌, subst, arith, searching}
-use Rattle.regex_lite_engine.proofs.Common.{Unwinds, kept_back_with, position_at}
+use Rattle.regex_lite_engine.proofs.Common.{Restores, stack_bound_with, position_at}
 use Rattle.regex_lite_engine.specs.declared.backtrack.walk.Backtracker.{Backtracker}
 use Rattle.regex_lite_engine.specs.Backtrack.Machine.{Frame, explore}
-use Rattle.regex_lite_engine.specs.Backtrack.Room.{explores, with_frames, work, left_of}
-use Rattle.regex_lite_engine.specs.Backtrack.Room.{FramesBelow, GoesOn, Went}
-use Rattle.regex_lite_engine.specs.Backtrack.Room.{IsFit, HasRoom, IsWalkingOrDone}
+use Rattle.regex_lite_engine.specs.Backtrack.Capacity.{explores, with_frames, work, left_of}
+use Rattle.regex_lite_engine.specs.Backtrack.Capacity.{FramesBelow, GoesOn, Went}
+use Rattle.regex_lite_engine.specs.Backtrack.Capacity.{IsFit, HasCapacity, IsWalkingOrDone}
 use Rattle.regex_lite_engine.specs.Backtrack.Searching.{Explores}
 use Rattle.regex_lite_engine.specs.Graph.Places.{Place}
-use Rattle.regex_lite_engine.proofs.backtrack.UnwindLemmas.{none_left, taken_up, unwinds_below}
-use Rattle.regex_lite_engine.proofs.backtrack.UnwindLemmas.{unwinds_explores, unwinds_fewer}
-use Rattle.regex_lite_engine.proofs.backtrack.WalkLemmas.{walk_unwinds}
+use Rattle.regex_lite_engine.proofs.backtrack.RestoreLemmas.{loaded, none_left, restores_below}
+use Rattle.regex_lite_engine.proofs.backtrack.RestoreLemmas.{restores_explores, restores_fewer}
+use Rattle.regex_lite_engine.proofs.backtrack.WalkLemmas.{walk_restores}
 
 module _ (table : List (Place ℕ)) (haystack : List ℕ) where
   pub goes_further : (a b c : Backtracker) (end : Option ℕ) → GoesOn table haystack a b None
@@ -72,23 +72,24 @@ module _ (table : List (Place ℕ)) (haystack : List ℕ) where
 
   -- the last that was left for later is taken up
   pub went_back : (walk walk' : Backtracker) (next : Option (ℕ × ℕ))
-      → Unwinds walk.stack.row walk.stack.frames next walk'.stack.row walk'.stack.frames
+      → Restores walk.stack.row walk.stack.frames next walk'.stack.row walk'.stack.frames
       → walk' ≡ record walk { stack = walk'.stack }
       → length walk'.stack.row ≡ length walk.stack.row → walk'.stack.room ≡ walk.stack.room
       → IsFit table haystack walk
-      → IsBack walk (with_frames walk' (taken_up next walk'.stack.frames))
+      → IsBack walk (with_frames walk' (loaded next walk'.stack.frames))
   went_back walk walk' next back same row room fit =
-      let frames = taken_up next walk'.stack.frames in
+      let frames = loaded next walk'.stack.frames in
       let explored : explores frames ≡ explores walk.stack.frames =
-      unwinds_explores next walk'.stack.row walk'.stack.frames walk.stack.row walk.stack.frames back
-      in
+      restores_explores next walk'.stack.row walk'.stack.frames walk.stack.row walk.stack.frames
+      back in
       let fewer : length frames ≤ length walk.stack.frames =
-      unwinds_fewer next walk'.stack.row walk'.stack.frames walk.stack.row walk.stack.frames back in
+      restores_fewer next walk'.stack.row walk'.stack.frames walk.stack.row walk.stack.frames
+      back in
       let few_tries = fit.few_tries in let stack_room = fit.stack_room in
       subst (λ (z : Backtracker). IsBack walk (with_frames z frames)) (sym same) (record {
         on = record {
           walks = λ s from i w.
-              walk_unwinds table
+              walk_restores table
               (searching table haystack s (position_at haystack walk.visited.first) from i)
               walk.visited walk.stack walk'.stack next back w;
           kept = record { places = refl; first = refl; row = row; room = room; pairs = refl };
@@ -99,11 +100,11 @@ module _ (table : List (Place ℕ)) (haystack : List ℕ) where
           all = fit.all;
           below =
               subst (λ width. FramesBelow table haystack walk.visited.first width frames) (sym row)
-              (unwinds_below next walk'.stack.row walk'.stack.frames table haystack
+              (restores_below next walk'.stack.row walk'.stack.frames table haystack
               walk.visited.first (length walk.stack.row) walk.stack.row walk.stack.frames back
               fit.below);
           stack_room =
-              subst (λ width. length frames + left_of table haystack (kept_back_with width)
+              subst (λ width. length frames + left_of table haystack (stack_bound_with width)
               walk.visited ≤ walk'.stack.room + 1) (sym row)
               (omega (arith, stack_room, fewer, room));
           few_tries = omega (arith, few_tries, explored);
@@ -117,17 +118,17 @@ module _ (table : List (Place ℕ)) (haystack : List ℕ) where
   -- no frame was left: all ways from the start were followed
   pub ended : (walk walk' walk'' : Backtracker) (s start : ℕ)
       → GoesOn table haystack (with_frames walk (explore s start ∷ [])) walk' None
-      → Unwinds walk'.stack.row walk'.stack.frames None walk''.stack.row walk''.stack.frames
+      → Restores walk'.stack.row walk'.stack.frames None walk''.stack.row walk''.stack.frames
       → IsBack walk' walk'' → Explores table haystack s start walk walk'' None
-  ended walk walk' walk'' s start gone unwinds back =
+  ended walk walk' walk'' s start gone restores back =
       let empty =
-      none_left walk'.stack.row walk''.stack.row walk'.stack.frames walk''.stack.frames unwinds in
+      none_left walk'.stack.row walk''.stack.row walk'.stack.frames walk''.stack.frames restores in
       let begun = with_frames walk (explore s start ∷ []) in
       record {
         on =
             subst (λ (fs : List Frame). GoesOn table haystack begun (with_frames walk'' fs) None)
             empty (goes_further begun walk' walk'' None gone back.on);
-        fit = λ e. subst (HasRoom table haystack walk'') empty back.fit;
+        fit = λ e. subst (HasCapacity table haystack walk'') empty back.fit;
         empty = λ e. empty;
         entered_tried = back.fit.entered_tried;
         looked_entered = back.fit.looked_entered;

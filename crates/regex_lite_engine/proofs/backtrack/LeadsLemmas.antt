@@ -10,8 +10,8 @@ use Rattle.regex_lite_engine.specs.declared.backtrack.walk.Backtracker.{Backtrac
 use Rattle.regex_lite_engine.specs.declared.nfa.place.Place as code
 use Rattle.regex_lite_engine.specs.Backtrack.Entering.{Enters}
 use Rattle.regex_lite_engine.specs.Backtrack.Machine.{explore}
-use Rattle.regex_lite_engine.specs.Backtrack.Room.{with_frames, AreAll}
-use Rattle.regex_lite_engine.specs.Backtrack.Room.{IsWalkingOrDone, WalksTo}
+use Rattle.regex_lite_engine.specs.Backtrack.Capacity.{with_frames, AreAll}
+use Rattle.regex_lite_engine.specs.Backtrack.Capacity.{IsWalkingOrDone, WalksTo}
 use Rattle.regex_lite_engine.specs.Backtrack.Walking.{IsWalking}
 use Rattle.regex_lite_engine.specs.Graph.Places.{Place}
 use Rattle.regex_lite_engine.proofs.OffsetLemmas.{positions_order}
@@ -70,7 +70,7 @@ module _ (bytes : List ℕ) (utf8 : IsUtf8 bytes) where
         (record walk { visited = entered_at walk.visited q at; stack = held })
         (if done then Some at else None)
     leads_entered x held done new short found enters s from i u =
-        told done (walk_enters table search walk.visited walk.stack q position at inside
+        reported done (walk_enters table search walk.visited walk.stack q position at inside
         low_position is_offset u new all.places begins short x held done found enters)
       where
         search : SearchFrom
@@ -79,14 +79,14 @@ module _ (bytes : List ℕ) (utf8 : IsUtf8 bytes) where
         begins : walk.visited.first ≡ offset (chars bytes) first
         begins = (position_is bytes walk.visited.first utf8 all.boundary).1
 
-        told : (done : Bool)
+        reported : (done : Bool)
             → Entered table search walk.visited walk.stack q position at inside low_position
             is_offset u new all.places begins short held done
             → IsWalkingOrDone table bytes s first from i
             (record walk { visited = entered_at walk.visited q at; stack = held })
             (if done then Some at else None)
-        told false w = w
-        told true w = w
+        reported false w = w
+        reported true w = w
 
   -- the start at position r is taken up, where those between lead to no end
   module _ (table : List (Place ℕ)) (s start p r at : ℕ) (walk walk' : Backtracker)

@@ -9,7 +9,7 @@ use Rattle.regex_lite_engine.proofs.Common.{get_or_past, length-replicate, sum_b
 use Rattle.regex_lite_engine.proofs.Common.{slice_get_within, Pairs, pair_number, was_entered}
 use Rattle.regex_lite_engine.proofs.Common.{characters_left, lone, offset, position_at}
 use Rattle.std.proofs.Math.Nat.{mul-suc, mul_comm}
-use Rattle.regex_lite_engine.specs.Backtrack.Room.{AreAll, left_in, left_from, left_of}
+use Rattle.regex_lite_engine.specs.Backtrack.Capacity.{AreAll, left_in, left_from, left_of}
 use Rattle.regex_lite_engine.specs.Graph.Places.{Place}
 use Rattle.regex_lite_engine.proofs.OffsetLemmas.{offset_less, positions_order}
 use Rattle.regex_lite_syntax.proofs.OptionLemmas.{not_there, same_some}

@@ -3,7 +3,7 @@ use Rattle.regex_lite_engine.proofs.Common.{◌≡◌, ℕ, ◌≤◌, List, [],
 use Rattle.regex_lite_engine.proofs.Common.{None, Option, sym, refl, ap, subst, Text, WayHolds}
 use Rattle.regex_lite_engine.proofs.Common.{Found, Marks, marked, over, mark_of, marks_along}
 use Rattle.regex_lite_engine.proofs.Common.{place_with, numbered_step, is_end, IsNumberedOutcome}
-use Rattle.regex_lite_engine.proofs.Common.{Node, Offer, offset, HasSlots, Row, IsDeadAt}
+use Rattle.regex_lite_engine.proofs.Common.{Node, PendingNode, offset, HasSlots, Row, IsDeadAt}
 use Rattle.regex_lite_engine.specs.Backtrack.DepthFirst as walk
 use Rattle.regex_lite_engine.specs.Graph.Places.{Place}
 use Rattle.regex_lite_engine.proofs.backtrack.DepthFirstEnterLemmas.{
@@ -15,8 +15,8 @@ use Rattle.regex_lite_engine.proofs.laws.LeadsLemmas.{leads_append}
 use Rattle.regex_lite_engine.proofs.laws.search.OverLemmas.{answer_when_over}
 use Rattle.regex_lite_engine.proofs.search.MarkLemmas.{same_slots, marks_append}
 use Rattle.regex_lite_engine.proofs.search.RecordLemmas.{extended, same_node}
-use Rattle.regex_lite_engine.proofs.search.PlaceLemmas.{wide, no_more, no_arrow_at, offered_by}
-use Rattle.regex_lite_engine.proofs.search.PlaceLemmas.{offers_listed}
+use Rattle.regex_lite_engine.proofs.search.PlaceLemmas.{wide, no_more, no_arrow_at, is_pending_by}
+use Rattle.regex_lite_engine.proofs.search.PlaceLemmas.{pending_listed}
 
 module _ (table : List (Place ℕ)) (h : Text) (s : ℕ) where
   pub holds_on : (i : ℕ) (row row' : Row) (n : Node) (w : List ℕ) (a : ℕ) (l : Node)
@@ -44,7 +44,7 @@ module _ (table : List (Place ℕ)) (haystack : Text) (s first : ℕ) where
   abbrev start : ℕ → Node
   start i = (s, i)
 
-  abbrev IsDepthFirst : ℕ → (Node → Option (List ℕ)) → List (Offer Node) → Type 0
+  abbrev IsDepthFirst : ℕ → (Node → Option (List ℕ)) → List (PendingNode Node) → Type 0
   IsDepthFirst =
       walk.IsDepthFirst Node (numbered_step table haystack) start (is_end table haystack) first
       (length haystack)
@@ -59,7 +59,7 @@ module _ (table : List (Place ℕ)) (haystack : Text) (s first : ℕ) where
       (length haystack) from recorded dead u) refl
 
   module _ (from : ℕ) (recorded : Node → Option (List ℕ)) (q p : ℕ) (w : List ℕ)
-      (fresh : recorded (q, p) ≡ None) (rest : List (Offer Node))
+      (fresh : recorded (q, p) ≡ None) (rest : List (PendingNode Node))
       (u : IsDepthFirst from recorded (((q, p), w) ∷ rest)) where
     abbrev recorded_now : Node → Option (List ℕ)
     recorded_now = extended Node same_node recorded (q, p) w
@@ -67,10 +67,11 @@ module _ (table : List (Place ℕ)) (haystack : Text) (s first : ℕ) where
     -- the arrows of a place where no match is complete come first of what is left
     pub numbered_entered : (IsTrue (is_end table haystack (q, p)) → ⊥)
         → IsDepthFirst from recorded_now
-        (offered_by table haystack (place_with table q) p w (wide table haystack (q, p)) 0 ++ rest)
+        (is_pending_by table haystack (place_with table q) p w (wide table haystack (q, p)) 0
+        ++ rest)
     numbered_entered no_match =
         subst (λ z. IsDepthFirst from recorded_now (z ++ rest))
-        (offers_listed table haystack q p w (wide table haystack (q, p)) 0)
+        (pending_listed table haystack q p w (wide table haystack (q, p)) 0)
         (depth_first_entered Node (numbered_step table haystack) start (is_end table haystack)
         first (length haystack) same_node from recorded (q, p) w fresh rest u
         (wide table haystack (q, p)) (no_more table haystack (q, p)) no_match)

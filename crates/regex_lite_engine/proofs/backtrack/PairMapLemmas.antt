@@ -90,8 +90,8 @@ stamped_now stamps generation count k inside lt =
 pub found_by_stamp : (stamps : List ℕ) (generation count k : ℕ) (fresh : Bool) → k < count
     → IsTrue fresh ↔ ¬ (slice_index_or stamps k 0 ≡ generation)
     → IsTrue fresh ↔ (slice_index_or (stamped stamps generation count) k false ≡ false)
-found_by_stamp stamps generation count k fresh lt told =
-    rw (stamp_of_pair stamps generation count k lt) (grind (arith, nat_tests, told))
+found_by_stamp stamps generation count k fresh lt reported =
+    rw (stamp_of_pair stamps generation count k lt) (grind (arith, nat_tests, reported))
 
 -- no stamp is of a later generation
 pub still_none_later : (stamps : List ℕ) (generation k : ℕ)

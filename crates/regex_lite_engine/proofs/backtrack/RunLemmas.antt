@@ -3,14 +3,14 @@ use Rattle.regex_lite_engine.proofs.Common.{◌≡◌, ℕ, ◌+◌, ◌-◌, �
 use Rattle.regex_lite_engine.proofs.Common.{◌∷◌, length, drop, is_some, Some, None, IsUtf8, sum_by}
 use Rattle.regex_lite_engine.proofs.Common.{Option, chars, IsCharBoundary, sym, refl, ap, ◌∙◌}
 use Rattle.regex_lite_engine.proofs.Common.{subst, inl, inr, arith, mul-le-mul_left, suc-mul, Text}
-use Rattle.regex_lite_engine.proofs.Common.{searching, kept_back_with, arrow_count, arrows_of}
+use Rattle.regex_lite_engine.proofs.Common.{searching, stack_bound_with, arrow_count, arrows_of}
 use Rattle.regex_lite_engine.proofs.Common.{characters_left, lone, CanCount, IsOffset, position_at}
 use Rattle.regex_lite_engine.proofs.Common.{IsHere, IsDeadAt, Here}
 use Rattle.std.proofs.lemmas.List.{length-drop}
 use Rattle.std.proofs.lemmas.Str.{IsUtf8-drop}
 use Rattle.regex_lite_engine.specs.declared.backtrack.walk.Backtracker.{Backtracker}
 use Rattle.regex_lite_engine.specs.Backtrack.Machine.{explore}
-use Rattle.regex_lite_engine.specs.Backtrack.Room.{explores, HasRoom, left_of}
+use Rattle.regex_lite_engine.specs.Backtrack.Capacity.{explores, HasCapacity, left_of}
 use Rattle.regex_lite_engine.specs.Backtrack.Searching.{Explores, IsFresh, IsUnderWay}
 use Rattle.regex_lite_engine.specs.Backtrack.Walking.{IsWalking}
 use Rattle.regex_lite_engine.specs.Graph.Places.{Place}
@@ -74,7 +74,7 @@ module _ (table : List (Place ℕ)) (haystack : List ℕ) (utf8 : IsUtf8 haystac
       let inside = (position_is haystack start utf8 edge).0 in
       let arrows : left_of table haystack arrow_count walk.visited ≡ arrows_of table * (left + 1)
       = all_left walk fresh arrow_count in
-      let keeps : Place ℕ → ℕ = kept_back_with (length walk.stack.row) in
+      let keeps : Place ℕ → ℕ = stack_bound_with (length walk.stack.row) in
       let kept : left_of table haystack keeps walk.visited ≡ sum_by keeps table * (left + 1)
       = all_left walk fresh keeps in
       let each : left_of table haystack lone walk.visited ≡ length table * (left + 1)
@@ -113,11 +113,11 @@ module _ (table : List (Place ℕ)) (haystack : List ℕ) (utf8 : IsUtf8 haystac
 
     -- there is room for the start there
     pub start_fits : CanCount table 1 left → s < length table
-        → HasRoom table haystack walk (explore s at ∷ [])
+        → HasCapacity table haystack walk (explore s at ∷ [])
     start_fits counts lt =
         let start_is = (position_is haystack start utf8 edge).1 in
         let grows = offset_grows (chars haystack) first q low in
-        let keeps : Place ℕ → ℕ = kept_back_with (length walk.stack.row) in
+        let keeps : Place ℕ → ℕ = stack_bound_with (length walk.stack.row) in
         let most : left_of table haystack keeps walk.visited ≤ sum_by keeps table * (left + 1)
         = subst (λ z. left_of table haystack keeps walk.visited
         ≤ sum_by keeps table * (characters_left (chars haystack) (position_at haystack z) + 1))
@@ -154,7 +154,7 @@ module _ (table : List (Place ℕ)) (haystack : List ℕ) (utf8 : IsUtf8 haystac
           fit = explored.fit refl;
           room =
               subst
-              (λ width. sum_by (kept_back_with width) table * (bytes_left + 1) ≤ walk'.stack.room)
+              (λ width. sum_by (stack_bound_with width) table * (bytes_left + 1) ≤ walk'.stack.room)
               (sym explored.on.kept.row) (omega (arith, on.room, explored.on.kept.room));
           empty = explored.empty refl;
           walking =

@@ -4,9 +4,9 @@ use Rattle.regex_lite_engine.proofs.Common.{◌++◌, length, replicate, IsTrue,
 use Rattle.regex_lite_engine.proofs.Common.{slice_set, Some, None, Option, sym, refl, ap, ◌∙◌}
 use Rattle.regex_lite_engine.proofs.Common.{subst, inl, inr, arith, cases_eq, get_or-set_other}
 use Rattle.regex_lite_engine.proofs.Common.{get_or-set_same, Pairs, pair_number, was_entered, Held}
-use Rattle.regex_lite_engine.proofs.Common.{Unwinds, WayHolds, SearchFrom, place_with}
-use Rattle.regex_lite_engine.proofs.Common.{numbered_step, is_end, IsNumberedOutcome, Node, Offer}
-use Rattle.regex_lite_engine.proofs.Common.{offset, IsOffset, Row, IsBlank, IsDeadAt}
+use Rattle.regex_lite_engine.proofs.Common.{Restores, WayHolds, SearchFrom, place_with}
+use Rattle.regex_lite_engine.proofs.Common.{numbered_step, is_end, IsNumberedOutcome, Node}
+use Rattle.regex_lite_engine.proofs.Common.{PendingNode, offset, IsOffset, Row, IsBlank, IsDeadAt}
 use Rattle.std.proofs.lemmas.Bool.{both_ways}
 use Rattle.regex_lite_syntax.specs.Tree.Matches.{IsPosition}
 use Rattle.regex_lite_engine.specs.Backtrack.DepthFirst as order
@@ -23,20 +23,20 @@ use Rattle.regex_lite_engine.proofs.backtrack.NumberedLemmas.{numbered_over, num
 use Rattle.regex_lite_engine.proofs.backtrack.NumberedLemmas.{numbered_complete}
 use Rattle.regex_lite_engine.proofs.OffsetLemmas.{offset_grows}
 use Rattle.regex_lite_engine.proofs.backtrack.PairLemmas.{same_pair, none_entered}
-use Rattle.regex_lite_engine.proofs.backtrack.UnwindLemmas.{taken_up}
+use Rattle.regex_lite_engine.proofs.backtrack.RestoreLemmas.{loaded}
 use Rattle.regex_lite_syntax.proofs.OptionLemmas.{not_there}
 use Rattle.regex_lite_engine.proofs.search.RecordLemmas as records
 use Rattle.regex_lite_engine.proofs.search.RecordLemmas.{same_node, none_or}
-use Rattle.regex_lite_engine.proofs.search.PlaceLemmas.{wide, offered_by}
+use Rattle.regex_lite_engine.proofs.search.PlaceLemmas.{wide, is_pending_by}
 use Rattle.regex_lite_engine.proofs.PositionLemmas.{same_position}
 
 module _ (table : List (Place ℕ)) (search : SearchFrom) where
   open search use {haystack, entry as s, first, from, i}
 
-  abbrev FramesHold : Row → List Frame → List (Offer Node) → Type 0
+  abbrev FramesHold : Row → List Frame → List (PendingNode Node) → Type 0
   FramesHold = walk.FramesHold table haystack s i
 
-  abbrev IsDepthFirst : ℕ → (Node → Option (List ℕ)) → List (Offer Node) → Type 0
+  abbrev IsDepthFirst : ℕ → (Node → Option (List ℕ)) → List (PendingNode Node) → Type 0
   IsDepthFirst =
       order.IsDepthFirst Node (numbered_step table haystack) (λ j. (s, j)) (is_end table haystack)
       first (length haystack)
@@ -47,7 +47,7 @@ module _ (table : List (Place ℕ)) (search : SearchFrom) where
       → IsWalking table (record search { from = first }) pairs (record held { frames = [] })
   walk_begun n pairs held none blank = record {
     recorded = λ m. None;
-    offers = [];
+    pending = [];
     depth_first = depth_first_begun Node (numbered_step table haystack) (λ j. (s, j))
         (is_end table haystack) first (length haystack) (λ m. None) (λ m. refl);
     seen = λ q p way r. absurd (not_there r);
@@ -63,7 +63,7 @@ module _ (table : List (Place ℕ)) (search : SearchFrom) where
       → IsWalking table (record search { i = j }) pairs (record held { frames = [] })
   walk_between j pairs held u = record {
     recorded = u.recorded;
-    offers = u.offers;
+    pending = u.pending;
     depth_first = u.depth_first;
     seen = u.seen;
     met = u.met;
@@ -78,7 +78,7 @@ module _ (table : List (Place ℕ)) (search : SearchFrom) where
       (record held { frames = explore s at ∷ [] })
   walk_started p at pairs held later low (within, is_at) dead u = record {
     recorded = u.recorded;
-    offers = ((s, p), p ∷ []) ∷ [];
+    pending = ((s, p), p ∷ []) ∷ [];
     depth_first = depth_first_started Node (numbered_step table haystack) (λ k. (s, k))
         (is_end table haystack) first (length haystack) from p u.recorded later low within dead
         (subst (IsDepthFirst from u.recorded) u.frames_hold.0 u.depth_first);
@@ -104,34 +104,35 @@ module _ (table : List (Place ℕ)) (search : SearchFrom) where
       numbered_over table haystack s first from u.recorded dead
       (subst (IsDepthFirst from u.recorded) u.frames_hold.0 u.depth_first)
 
-  frames_unwound : (row : Row) (frames : List Frame) (offers : List (Offer Node))
+  frames_restored : (row : Row) (frames : List Frame) (pending : List (PendingNode Node))
       (next : Option (ℕ × ℕ)) (row' : Row) (frames' : List Frame)
-      → Unwinds row frames next row' frames' → FramesHold row frames offers
-      → FramesHold row' (taken_up next frames') offers
-  frames_unwound row [] offers next row' frames' (none, same, empty) holds =
-      subst (λ z. FramesHold row' (taken_up z frames') offers) (sym none)
-      (subst (λ z. FramesHold z frames' offers) (sym same)
-      (subst (λ z. FramesHold row z offers) (sym empty) holds))
-  frames_unwound row (explore q at ∷ frames) offers next row' frames' (some, same, rest) holds =
-      subst (λ z. FramesHold row' (taken_up z frames') offers) (sym some)
-      (subst (λ z. FramesHold z (explore q at ∷ frames') offers) (sym same)
-      (subst (λ z. FramesHold row (explore q at ∷ z) offers) (sym rest) holds))
-  frames_unwound row (restore slot old ∷ frames) offers next row' frames' back holds =
-      frames_unwound (slice_set row slot old) frames offers next row' frames' back holds
+      → Restores row frames next row' frames' → FramesHold row frames pending
+      → FramesHold row' (loaded next frames') pending
+  frames_restored row [] pending next row' frames' (none, same, empty) holds =
+      subst (λ z. FramesHold row' (loaded z frames') pending) (sym none)
+      (subst (λ z. FramesHold z frames' pending) (sym same)
+      (subst (λ z. FramesHold row z pending) (sym empty) holds))
+  frames_restored row (explore q at ∷ frames) pending next row' frames' (some, same, rest) holds =
+      subst (λ z. FramesHold row' (loaded z frames') pending) (sym some)
+      (subst (λ z. FramesHold z (explore q at ∷ frames') pending) (sym same)
+      (subst (λ z. FramesHold row (explore q at ∷ z) pending) (sym rest) holds))
+  frames_restored row (restore slot old ∷ frames) pending next row' frames' back holds =
+      frames_restored (slice_set row slot old) frames pending next row' frames' back holds
 
   -- slots hold again what they held
-  pub walk_unwinds : (pairs : Pairs) (held held' : Held) (next : Option (ℕ × ℕ))
-      → Unwinds held.row held.frames next held'.row held'.frames
+  pub walk_restores : (pairs : Pairs) (held held' : Held) (next : Option (ℕ × ℕ))
+      → Restores held.row held.frames next held'.row held'.frames
       → IsWalking table search pairs held
-      → IsWalking table search pairs (record held' { frames = taken_up next held'.frames })
-  walk_unwinds pairs held held' next back u = record {
+      → IsWalking table search pairs (record held' { frames = loaded next held'.frames })
+  walk_restores pairs held held' next back u = record {
     recorded = u.recorded;
-    offers = u.offers;
+    pending = u.pending;
     depth_first = u.depth_first;
     seen = u.seen;
     met = u.met;
     frames_hold =
-        frames_unwound held.row held.frames u.offers next held'.row held'.frames back u.frames_hold;
+        frames_restored held.row held.frames u.pending next held'.row held'.frames back
+        u.frames_hold;
   }
 
   module _ (pairs : Pairs) (held : Held) (q p at : ℕ) (inside : q < length table) (low : first ≤ p)
@@ -142,14 +143,14 @@ module _ (table : List (Place ℕ)) (search : SearchFrom) where
     -- what is offered first
     abbrev Top : ℕ → Type 0
     Top j =
-        (w : List ℕ) × (rest : List (Offer Node))
+        (w : List ℕ) × (rest : List (PendingNode Node))
         × IsDepthFirst from u.recorded (((q, j), w) ∷ rest)
         × WayHolds table haystack s i row (q, j) w × FramesHold row frames rest
 
     top : Top p
     top = at_offset u.frames_hold
       where
-        at_offset : FramesHold row (explore q at ∷ frames) u.offers → Top p
+        at_offset : FramesHold row (explore q at ∷ frames) u.pending → Top p
         at_offset (j, w, rest, (within, is_at), e, holds, waits) =
             subst Top (same_position haystack j p within is_offset.0 (sym is_at ∙ is_offset.1))
             (w, rest, subst (IsDepthFirst from u.recorded) e u.depth_first, holds, waits)
@@ -162,12 +163,12 @@ module _ (table : List (Place ℕ)) (search : SearchFrom) where
       where
         pass : Top p → (v : List ℕ) × (u.recorded (q, p) ≡ Some v)
             → IsWalking table search pairs held
-        pass (w, rest, offered, holds, waits) (v, r) = record {
+        pass (w, rest, is_pending, holds, waits) (v, r) = record {
           recorded = u.recorded;
-          offers = rest;
+          pending = rest;
           depth_first = depth_first_passed Node (numbered_step table haystack) (λ k. (s, k))
               (is_end table haystack) first (length haystack) from u.recorded (q, p) w v rest r
-              offered;
+              is_pending;
           seen = u.seen;
           met = u.met;
           frames_hold = waits;
@@ -184,11 +185,11 @@ module _ (table : List (Place ℕ)) (search : SearchFrom) where
       walk_complete ends = complete top
         where
           complete : Top p → IsNumberedOutcome table haystack s first (Some (i, at, row))
-          complete (w, rest, offered, holds, waits) =
+          complete (w, rest, is_pending, holds, waits) =
               subst (λ z. IsNumberedOutcome table haystack s first (Some (i, z, row)))
               (sym is_offset.1)
-              (numbered_complete table haystack s first from u.recorded q p w fresh rest offered i
-              row ends holds)
+              (numbered_complete table haystack s first from u.recorded q p w fresh rest is_pending
+              i row ends holds)
 
       -- what the search keeps of an entered place
       module _ (all : pairs.places ≡ length table) (begins : pairs.first ≡ offset haystack first)
@@ -275,21 +276,21 @@ module _ (table : List (Place ℕ)) (search : SearchFrom) where
 
         -- what the place offers comes first of what is left
         pub walk_entered : (held' : Held) → (IsTrue (is_end table haystack (q, p)) → ⊥)
-            → ((w : List ℕ) (rest : List (Offer Node)) → WayHolds table haystack s i row (q, p) w
-            → FramesHold row frames rest
+            → ((w : List ℕ) (rest : List (PendingNode Node)) → WayHolds table haystack s i row
+            (q, p) w → FramesHold row frames rest
             → FramesHold held'.row held'.frames
-            (offered_by table haystack (place_with table q) p w (wide table haystack (q, p)) 0
+            (is_pending_by table haystack (place_with table q) p w (wide table haystack (q, p)) 0
             ++ rest))
             → IsWalking table search pairs_now held'
         walk_entered held' no_match hold' = enter top
           where
             enter : Top p → IsWalking table search pairs_now held'
-            enter (w, rest, offered, holds, waits) = record {
+            enter (w, rest, is_pending, holds, waits) = record {
               recorded = recorded_now w;
-              offers = offered_by table haystack (place_with table q) p w
+              pending = is_pending_by table haystack (place_with table q) p w
                   (wide table haystack (q, p)) 0 ++ rest;
               depth_first = numbered_entered table haystack s first from u.recorded q p w fresh rest
-                  offered no_match;
+                  is_pending no_match;
               seen = seen_now w;
               met = met_now w;
               frames_hold = hold' w rest holds waits;

@@ -4,18 +4,19 @@ use Rattle.regex_lite_engine.proofs.Common.{set, if◌then◌else◌, slice_get,
 use Rattle.regex_lite_engine.proofs.Common.{IsUtf8}
 use Rattle.regex_lite_engine.proofs.Common.{chars, sym, refl, ap, ◌∙◌, subst, arith, length-set}
 use Rattle.regex_lite_engine.proofs.Common.{set-get_or, Pairs, pair_number, was_entered, Held}
-use Rattle.regex_lite_engine.proofs.Common.{kept_back_with, arrow_count, place_of, LeadsBelow}
+use Rattle.regex_lite_engine.proofs.Common.{stack_bound_with, arrow_count, place_of, LeadsBelow}
 use Rattle.regex_lite_engine.proofs.Common.{StepCounts, lone, position_at}
 use Rattle.regex_lite_engine.specs.declared.backtrack.walk.Backtracker.{Backtracker}
 use Rattle.regex_lite_engine.specs.declared.nfa.place.Place as code
 use Rattle.regex_lite_engine.specs.Backtrack.Entering.{Enters}
 use Rattle.regex_lite_engine.specs.Backtrack.Machine.{explore}
-use Rattle.regex_lite_engine.specs.Backtrack.Room.{with_frames, Went, HasRoom, WalksTo, left_of}
+use Rattle.regex_lite_engine.specs.Backtrack.Capacity.{with_frames, Went, HasCapacity, WalksTo}
+use Rattle.regex_lite_engine.specs.Backtrack.Capacity.{left_of}
 use Rattle.regex_lite_engine.specs.Graph.Places.{Place}
 use Rattle.regex_lite_engine.specs.Search.Counting.{weight}
 use Rattle.regex_lite_engine.proofs.backtrack.LeadsLemmas.{entered_at}
 use Rattle.regex_lite_engine.proofs.backtrack.LeftLemmas.{left_enter, left_room}
-use Rattle.regex_lite_engine.proofs.backtrack.RoomLemmas.{enters_few, enters_within}
+use Rattle.regex_lite_engine.proofs.backtrack.CapacityLemmas.{enters_few, enters_within}
 
 -- an old pair stays as it is
 pub entered_again : (pairs : Pairs) (q at : ℕ) → was_entered pairs q at ≡ true
@@ -26,7 +27,7 @@ entered_again pairs q at was =
     (ap (set pairs.entered pair) (sym was) ∙ set-get_or pairs.entered pair false)
 
 module _ (table : List (Place ℕ)) (haystack : List ℕ) (walk : Backtracker) (q at : ℕ)
-    (fit : HasRoom table haystack walk (explore q at ∷ walk.stack.frames)) where
+    (fit : HasCapacity table haystack walk (explore q at ∷ walk.stack.frames)) where
   abbrev before : Backtracker
   before = with_frames walk (explore q at ∷ walk.stack.frames)
 
@@ -68,12 +69,13 @@ module _ (table : List (Place ℕ)) (haystack : List ℕ) (walk : Backtracker) (
         (place_of x) got at fit.below.2 fit.below.1 new
 
     -- there is room for what entering the place keeps back
-    pub enter_room : length walk.stack.frames + kept_back_with (length walk.stack.row) (place_of x)
-        ≤ walk.stack.room
+    pub enter_room : length walk.stack.frames + stack_bound_with (length walk.stack.row)
+        (place_of x) ≤ walk.stack.room
     enter_room =
         let left =
-        left_room table haystack utf8 walk.visited fit.all (kept_back_with (length walk.stack.row))
-        q (place_of x) got at fit.below.2 fit.below.1 new in
+        left_room table haystack utf8 walk.visited fit.all
+        (stack_bound_with (length walk.stack.row)) q (place_of x) got at fit.below.2 fit.below.1
+        new in
         omega (arith, left, fit.stack_room)
 
     -- the pair is new
@@ -98,7 +100,7 @@ module _ (table : List (Place ℕ)) (haystack : List ℕ) (walk : Backtracker) (
         let within = enters_within table haystack utf8 walk.visited.first at fit.below.1 fit.below.2
         walk.stack held done fit.below.3 x inside enters in
         let arrows_left = less_left arrow_count in
-        let kept_left = less_left (kept_back_with (length walk.stack.row)) in
+        let kept_left = less_left (stack_bound_with (length walk.stack.row)) in
         let lone_left : left_of table haystack lone (entered_at walk.visited q at) + 1
         ≡ left_of table haystack lone walk.visited
         = less_left lone in
@@ -132,7 +134,7 @@ module _ (table : List (Place ℕ)) (haystack : List ℕ) (walk : Backtracker) (
             };
             below = within;
             stack_room =
-                subst (λ width. length held.frames + left_of table haystack (kept_back_with width)
+                subst (λ width. length held.frames + left_of table haystack (stack_bound_with width)
                 (entered_at walk.visited q at) ≤ held.room + 1)
                 (sym few.3) (omega (arith, kept_left, fit.stack_room, few.2, same));
             few_tries = omega (arith, arrows_left, few.0, few_tries);
@@ -198,5 +200,5 @@ same_walk pairs pairs' held steps steps' of_pairs of_steps =
 
 -- a pair that is not new was entered
 pub was_old : (was fresh : Bool) → fresh ≡ false → (was ≡ false → fresh ≡ true) → was ≡ true
-was_old true fresh e told = refl
-was_old false fresh e told = let t : fresh ≡ true = told refl in cc
+was_old true fresh e reported = refl
+was_old false fresh e reported = let t : fresh ≡ true = reported refl in cc

@@ -8,7 +8,7 @@ use Rattle.regex_lite_engine.proofs.Common.{SomeBranch, nullable, ClassRange, wi
 use Rattle.regex_lite_engine.proofs.Common.{go_marking, go_holding, go_reading, one_of, step_from}
 use Rattle.std.proofs.lemmas.Bool.{eq-eqb}
 use Rattle.regex_lite_engine.specs.Graph.Places.{Place}
-use Rattle.regex_lite_engine.proofs.laws.StandingLemmas.{Stands, StandInChain, StandAsBranches}
+use Rattle.regex_lite_engine.proofs.laws.IsHereLemmas.{Stands, StandInChain, StandAsBranches}
 use Rattle.regex_lite_engine.proofs.laws.WalkLemmas.{Walk, walk_on, no_arrow, one_arrow, by_go}
 use Rattle.regex_lite_engine.proofs.laws.PassWalkLemmas.{in_repetition}
 

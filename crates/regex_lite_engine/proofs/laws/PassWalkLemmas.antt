@@ -4,9 +4,9 @@ use Rattle.regex_lite_engine.proofs.Common.{Some, None, Option, refl, subst, ari
 use Rattle.regex_lite_engine.proofs.Common.{choice}
 use Rattle.regex_lite_syntax.specs.Tree.Matches.{Passes}
 use Rattle.regex_lite_engine.specs.Graph.Places.{Place}
-use Rattle.regex_lite_engine.proofs.laws.StandingLemmas.{InRow, InChoices, IsNullableStar}
-use Rattle.regex_lite_engine.proofs.laws.StandingLemmas.{IsAtLeast, IsBetween, IsBounded}
-use Rattle.regex_lite_engine.proofs.laws.StandingLemmas.{IsRepetition}
+use Rattle.regex_lite_engine.proofs.laws.IsHereLemmas.{InRow, InChoices, IsNullableStar}
+use Rattle.regex_lite_engine.proofs.laws.IsHereLemmas.{IsAtLeast, IsBetween, IsBounded}
+use Rattle.regex_lite_engine.proofs.laws.IsHereLemmas.{IsRepetition}
 use Rattle.regex_lite_engine.proofs.laws.WalkLemmas.{Walk, walk_on, no_arrow}
 use Rattle.regex_lite_engine.proofs.laws.WalkLemmas.{by_go, into_body, past_body}
 

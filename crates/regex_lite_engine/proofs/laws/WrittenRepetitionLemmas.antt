@@ -6,8 +6,8 @@ use Rattle.regex_lite_engine.proofs.Common.{in_choices, between_row, bounded_row
 use Rattle.regex_lite_engine.specs.Graph.Places.{Place}
 use Rattle.regex_lite_engine.specs.Graph.Addresses.{repetition_entry}
 use Rattle.regex_lite_engine.specs.Graph.Repetitions.{next_choice}
-use Rattle.regex_lite_engine.proofs.laws.StandingLemmas.{InRow, InChoices, IsBetween}
-use Rattle.regex_lite_engine.proofs.laws.StandingLemmas.{IsBounded, IsRepetition}
+use Rattle.regex_lite_engine.proofs.laws.IsHereLemmas.{InRow, InChoices, IsBetween}
+use Rattle.regex_lite_engine.proofs.laws.IsHereLemmas.{IsBounded, IsRepetition}
 use Rattle.regex_lite_engine.proofs.laws.WrittenPartLemmas.{HasRow, HasParts, has_part}
 use Rattle.regex_lite_engine.proofs.laws.WrittenPartLemmas.{has_parts, first_part, later_parts}
 

@@ -12,7 +12,7 @@ use Rattle.regex_lite_engine.specs.Graph.Places.{Place}
 use Rattle.regex_lite_engine.specs.Graph.SideBySide.{AreRegularPatterns}
 use Rattle.regex_lite_engine.specs.Search.NumberedList.{IsNumberedFoundOf}
 use Rattle.regex_lite_engine.specs.Search.NumberedOutcomes.{IsBestOutcomeOf, numbered_at}
-use Rattle.regex_lite_engine.specs.Search.NumberedOutcomes.{with_origin_kept}
+use Rattle.regex_lite_engine.specs.Search.NumberedOutcomes.{with_match_start_kept}
 use Rattle.regex_lite_engine.specs.Search.NumberedWords.{AreAnsweredBy, HasMatchOfNumber}
 use Rattle.regex_lite_engine.specs.Search.NumberedWords.{IsEachAnsweredBy}
 use Rattle.regex_lite_engine.proofs.OffsetLemmas.{boundary_at, offset_grows, positions_order}
@@ -140,14 +140,15 @@ module _ (trees : List Tree) (regular : AreRegularPatterns trees) (name : ℕ �
         (word.k, word.inside, word.owned, word.stands),
       )
 
-  module _ (told : ℕ × (ℕ × ℕ)) (later : from ≤ told.1.0)
-      (none : NoneStands words bytes from told.1.0) (span : IsSpanOfPattern numbered bytes told)
+  module _ (reported : ℕ × (ℕ × ℕ)) (later : from ≤ reported.1.0)
+      (none : NoneStands words bytes from reported.1.0)
+      (span : IsSpanOfPattern numbered bytes reported)
     where
       abbrev number : ℕ
-      number = told.0
+      number = reported.0
 
       abbrev at : ℕ
-      at = told.1.0
+      at = reported.1.0
 
       tree_of_it : (tree : Tree) × HasTree trees number tree
       tree_of_it =
@@ -183,7 +184,7 @@ module _ (trees : List Tree) (regular : AreRegularPatterns trees) (name : ℕ �
             (sym (own.same other (omega (arith, less, place.0, place.1)))) stands);
       }
 
-      next_own : IsNextSpan own.own bytes from (Some told.1)
+      next_own : IsNextSpan own.own bytes from (Some reported.1)
       next_own = (
         later,
         λ here low high stands. none here low high (any_of number here
@@ -199,7 +200,7 @@ module _ (trees : List Tree) (regular : AreRegularPatterns trees) (name : ℕ �
       entry : (entry : ℕ) × (slice_get entries number ≡ Some entry)
       entry = are.each number tree tree_of_it.1
 
-      answer : IsNumberedOutcome table h entry.0 s (Some (told.1.0, told.1.1, []))
+      answer : IsNumberedOutcome table h entry.0 s (Some (reported.1.0, reported.1.1, []))
       answer =
           words_answer tree (regular number tree tree_of_it.1) table entry.0
           (name_in_pattern trees number tree tree_of_it.1 name table written)
@@ -207,7 +208,7 @@ module _ (trees : List Tree) (regular : AreRegularPatterns trees) (name : ℕ �
           (part_of_list trees number tree tree_of_it.1 name table written)
           (entry_of_part trees number tree tree_of_it.1 name table written entry.0
           (are.of_pattern number entry.0 entry.1).2)
-          (Some own.own) own.of_tree own.are bytes from (Some told.1) utf8 edge next_own
+          (Some own.own) own.of_tree own.are bytes from (Some reported.1) utf8 edge next_own
 
       abbrev found : Found
       found = answer.0
@@ -251,30 +252,30 @@ module _ (trees : List Tree) (regular : AreRegularPatterns trees) (name : ℕ �
       }
 
       found_words : IsBestOutcomeOf table h entries s
-          (with_origin_kept (numbered_at (Some told) []))
+          (with_match_start_kept (numbered_at (Some reported) []))
       found_words = (
         number,
         found,
         found_of,
-        record { start_told = answer.2; number_told = refl },
+        record { start_reported = answer.2; number_reported = refl },
         answer.3,
         answer.4,
       )
 
-  list_answered : (told : Option (ℕ × (ℕ × ℕ))) → IsNextOfPatterns numbered bytes from told
-      → IsBestOutcomeOf table h entries s (with_origin_kept (numbered_at told []))
+  list_answered : (reported : Option (ℕ × (ℕ × ℕ))) → IsNextOfPatterns numbered bytes from reported
+      → IsBestOutcomeOf table h entries s (with_match_start_kept (numbered_at reported []))
   list_answered None none = none_found none
-  list_answered (Some told) (later, none, span) = found_words told later none span
+  list_answered (Some reported) (later, none, span) = found_words reported later none span
 
 -- if the trees are nothing but their words, the next of these is what a search finds
 pub words_of_list : (trees : List Tree) → AreRegularPatterns trees → (name : ℕ → Address)
     (table : List (Place ℕ)) (entries : List ℕ) → IsRenumbered (side_by_side trees) name table
     → AreEntries trees name table entries → (numbered : NumberedWords)
     → AreWordsOfTrees trees numbered → AreAnsweredBy table entries numbered
-words_of_list trees regular name table entries written are numbered of_trees bytes from told utf8
-    edge next =
+words_of_list trees regular name table entries written are numbered of_trees bytes from reported
+    utf8 edge next =
     list_answered trees regular name table entries written are numbered of_trees bytes from utf8
-    edge told next
+    edge reported next
 
 -- and those patterns match of which a word stands
 pub each_word_of_list : (trees : List Tree) → AreRegularPatterns trees → (name : ℕ → Address)
@@ -300,15 +301,15 @@ each_word_of_list trees regular name table entries written are all numbered of_t
 }
 
 -- the same where they are known of the trees
-pub told_of_words : (trees : List Tree) → AreRegularPatterns trees → (name : ℕ → Address)
+pub reported_of_words : (trees : List Tree) → AreRegularPatterns trees → (name : ℕ → Address)
     (table : List (Place ℕ)) (entries : List ℕ) → IsRenumbered (side_by_side trees) name table
     → AreEntries trees name table entries → length entries ≡ length trees
     → {X : Type 0} (value : X → NumberedWords)
-    (told : Option X) → IfSome told (λ words. AreWordsOfTrees trees (value words))
-    → IfSome told (λ words. AreAnsweredBy table entries (value words)
+    (reported : Option X) → IfSome reported (λ words. AreWordsOfTrees trees (value words))
+    → IfSome reported (λ words. AreAnsweredBy table entries (value words)
     × IsEachAnsweredBy table entries (value words))
-told_of_words trees regular name table entries written are all value None of_trees = tt
-told_of_words trees regular name table entries written are all value (Some words) of_trees = (
+reported_of_words trees regular name table entries written are all value None of_trees = tt
+reported_of_words trees regular name table entries written are all value (Some words) of_trees = (
   words_of_list trees regular name table entries written are (value words) of_trees,
   each_word_of_list trees regular name table entries written are all (value words) of_trees,
 )

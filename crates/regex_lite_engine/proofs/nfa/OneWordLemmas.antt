@@ -100,9 +100,9 @@ module _ (tree : Tree) (regular : IsRegular tree) (words : List (List Letter))
 -- what is so of a tree that is its words holds where they are known of it
 pub words_answer_searches : (tree : Tree) → IsRegular tree → (table : List (Place ℕ)) (start : ℕ)
     (name : ℕ → Address) (Part : ℕ → Type 0) → IsPart (written_out tree) name table Part
-    → IsPartNumber name Part start_address start → (told : Option (List (List Letter)))
-    → IfSome told (AreWordsOfTree tree) → IfSome told (IsItsWords tree)
-    → IfSome told (AnswerSearches table start)
+    → IsPartNumber name Part start_address start → (reported : Option (List (List Letter)))
+    → IfSome reported (AreWordsOfTree tree) → IfSome reported (IsItsWords tree)
+    → IfSome reported (AnswerSearches table start)
 words_answer_searches tree regular table start name Part r entry None begin are = tt
 words_answer_searches tree regular table start name Part r entry (Some words) begin are =
     let answer = words_answer tree regular table start name Part r entry (Some words) begin are in

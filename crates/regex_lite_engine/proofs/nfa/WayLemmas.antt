@@ -1,13 +1,12 @@
 -- Where the tree of a graph does not match, no arrows of the graph lead to a complete match.
 use Rattle.regex_lite_engine.proofs.Common.{◌≡◌, ℕ, suc, ◌<◌, List, length, IfSome, slice_get, Some}
 use Rattle.regex_lite_engine.proofs.Common.{Bool, true, false, nullable, None, Option, sym, ◌∙◌}
-use Rattle.regex_lite_engine.proofs.Common.{inl, inr}
-use Rattle.regex_lite_engine.proofs.Common.{arith, cases_eq, slice_get_within, Text, Tree, Matches}
-use Rattle.regex_lite_engine.proofs.Common.{IsRegular, Address, IsRenumbered}
-use Rattle.regex_lite_engine.proofs.Common.{side_by_side, AreEntries, start_address}
-use Rattle.regex_lite_engine.proofs.Common.{written_out, NeverBegins, MayBegin, numbered_step}
-use Rattle.regex_lite_engine.proofs.Common.{IsEntry, IsDeadAt, AreListHeadsOf, Heads, ListHeads}
-use Rattle.regex_lite_engine.proofs.Common.{Starts, pattern_table, pattern_layout, map, subst, ap}
+use Rattle.regex_lite_engine.proofs.Common.{inl, inr, arith, cases_eq, slice_get_within, Text, Tree}
+use Rattle.regex_lite_engine.proofs.Common.{Matches, IsRegular, Address, IsRenumbered, side_by_side}
+use Rattle.regex_lite_engine.proofs.Common.{AreEntries, start_address, written_out, NeverBegins}
+use Rattle.regex_lite_engine.proofs.Common.{MayBegin, numbered_step, IsEntry, IsDeadAt}
+use Rattle.regex_lite_engine.proofs.Common.{IsPrefixIndexOf, PrefixSets, PrefixIndex, FirstSet}
+use Rattle.regex_lite_engine.proofs.Common.{pattern_table, pattern_layout, map, subst, ap}
 use Rattle.regex_lite_engine.proofs.Common.{range_with_len, slice_get-map}
 use Rattle.std.specs.List.{All, filter}
 use Rattle.std.specs.Prelude.{option_map}
@@ -21,17 +20,18 @@ use Rattle.regex_lite_engine.specs.Search.Starts.{AreFiltersOf, AreFactsOf, None
 use Rattle.regex_lite_engine.specs.Search.Starts.{DoWordsAnswer}
 use Rattle.regex_lite_engine.specs.Search.Starts.{AreAllAtEnd, AreReading, TellReading}
 use Rattle.regex_lite_engine.specs.Search.Starts.{may_be_empty}
-use Rattle.regex_lite_syntax.specs.Prefilter.Heads.{AreSecondOfTree, AreHeadsOfTree}
-use Rattle.regex_lite_syntax.specs.Prefilter.ListHeads.{AreHeadsOfTrees}
+use Rattle.regex_lite_syntax.specs.Prefilter.PrefixSets.{AreSecondOfTree, ArePrefixSetsOfTree}
+use Rattle.regex_lite_syntax.specs.Prefilter.PrefixIndex.{IsPrefixIndexOfTrees}
 use Rattle.regex_lite_syntax.specs.Prefilter.Needed.{AreNeededByEach, IsNeededBy, IsOutOfReach}
 use Rattle.regex_lite_syntax.specs.Prefilter.Needed.{NeededWords}
 use Rattle.regex_lite_syntax.specs.Prefilter.StartFacts.{AreEachFactsOf, AreFactsOfTree}
 use Rattle.regex_lite_syntax.specs.Prefilter.StartFacts.{NeverStarts, NoneStandsIn, StartFacts}
 use Rattle.regex_lite_syntax.specs.Prefilter.Words.{AreWordsOfTree}
 use Rattle.regex_lite_syntax.specs.declared.prefilter.words.letter.Letter.{Letter}
-use Rattle.regex_lite_syntax.proofs.prefilter.list_heads.IndexLemmas.{walkable}
-use Rattle.regex_lite_syntax.proofs.prefilter.list_heads.ThirdLemmas.{stuck_matches}
-use Rattle.regex_lite_syntax.proofs.prefilter.list_heads.TreeLemmas.{left_out_matches, none_matches}
+use Rattle.regex_lite_syntax.proofs.prefilter.prefix_index.IndexLemmas.{walkable}
+use Rattle.regex_lite_syntax.proofs.prefilter.prefix_index.ThirdLemmas.{stuck_matches}
+use Rattle.regex_lite_syntax.proofs.prefilter.prefix_index.TreeLemmas.{left_out_matches}
+use Rattle.regex_lite_syntax.proofs.prefilter.prefix_index.TreeLemmas.{none_matches}
 use Rattle.regex_lite_engine.proofs.laws.several.PartLemmas.{name_in_pattern, InPattern}
 use Rattle.regex_lite_engine.proofs.laws.several.PartLemmas.{part_of_list, entry_of_part}
 use Rattle.regex_lite_engine.proofs.nfa.write.RenumberingLemmas.{whole_names, renumbered}
@@ -43,7 +43,7 @@ use Rattle.regex_lite_engine.proofs.laws.search.NumberedWayLemmas.{IsPart, IsPar
 use Rattle.regex_lite_engine.proofs.laws.search.NumberedWayLemmas.{whole_number, in_addresses}
 use Rattle.regex_lite_engine.proofs.nfa.OneWordLemmas.{words_answer_searches}
 use Rattle.regex_lite_syntax.proofs.LookupLemmas.{there_is}
-use Rattle.regex_lite_syntax.proofs.prefilter.list_heads.WalkLemmas.{filter_at_most}
+use Rattle.regex_lite_syntax.proofs.prefilter.prefix_index.WalkLemmas.{filter_at_most}
 use Rattle.regex_lite_engine.proofs.search.list_patterns.ListStartLemmas.{all_below, tested_start}
 
 pub dead_without_match : (tree : Tree) (haystack : Text) (table : List (Place ℕ)) (start : ℕ)
@@ -70,36 +70,37 @@ dead_in_pattern tree regular haystack i =
     (whole_number name table start_address start (starts_there tree regular)) regular i
 
 -- none matches where the heads rule it out
-never_matches : (tree : Tree) (heads : Heads) → AreHeadsOfTree tree heads → (haystack : Text)
-    (i : ℕ) → NeverBegins heads haystack i → (j : ℕ) → Matches haystack tree i j → ⊥
-never_matches tree heads of_tree haystack i (inl off) j m = off (of_tree.first haystack i j m)
-never_matches tree heads of_tree haystack i (inr off) j m =
-    by_second heads.second of_tree.second off
+never_matches : (tree : Tree) (prefixes : PrefixSets) → ArePrefixSetsOfTree tree prefixes
+    → (haystack : Text) (i : ℕ) → NeverBegins prefixes haystack i → (j : ℕ) → Matches haystack tree
+    i j → ⊥
+never_matches tree prefixes of_tree haystack i (inl off) j m = off (of_tree.first haystack i j m)
+never_matches tree prefixes of_tree haystack i (inr off) j m =
+    by_second prefixes.second of_tree.second off
   where
-    by_second : (o : Option Starts) → IfSome o (AreSecondOfTree tree)
+    by_second : (o : Option FirstSet) → IfSome o (AreSecondOfTree tree)
         → MatchOption o ⊥ (λ second. ¬ (MayBegin second haystack (suc i))) → ⊥
-    by_second None told off = off
-    by_second (Some second) told off = off (told haystack i j m)
+    by_second None reported off = off
+    by_second (Some second) reported off = off (reported haystack i j m)
 
 -- none matches where what is known of the tree rules it out
 never_starts : (tree : Tree) (facts : StartFacts) → AreFactsOfTree tree facts → (haystack : Text)
     (i : ℕ) → NeverStarts facts haystack i → (j : ℕ) → Matches haystack tree i j → ⊥
 never_starts tree facts of_tree haystack i (inl never) j m =
-    never_matches tree facts.heads of_tree.heads haystack i never j m
+    never_matches tree facts.prefixes of_tree.prefixes haystack i never j m
 never_starts tree facts of_tree haystack i (inr (inr out)) j m =
     by_needed facts.needed of_tree.needed out
   where
     by_needed : (o : Option NeededWords) → IfSome o (IsNeededBy tree)
         → MatchOption o ⊥ (λ needed. IsOutOfReach needed haystack i) → ⊥
-    by_needed None told out = out
-    by_needed (Some needed) told out = out (told haystack i j m)
+    by_needed None reported out = out
+    by_needed (Some needed) reported out = out (reported haystack i j m)
 never_starts tree facts of_tree haystack i (inr (inl none)) j m =
     by_words facts.words of_tree.words none
   where
     by_words : (o : Option (List (List Letter))) → IfSome o (AreWordsOfTree tree)
         → MatchOption o ⊥ (λ words. NoneStandsIn words haystack i) → ⊥
-    by_words None told none = none
-    by_words (Some words) told none = none (told haystack i j m)
+    by_words None reported none = none
+    by_words (Some words) reported none = none (reported haystack i j m)
 
 -- what is known of a tree is so of its written-out places
 pub written_facts : (tree : Tree) → IsRegular tree → (table : List (Place ℕ)) (start : ℕ)
@@ -166,13 +167,13 @@ module _ (trees : List Tree) (regular : AreRegularPatterns trees) (name : ℕ �
         (never_starts own.0 filter (w.each number own.0 filter own.1 there) haystack i never));
     answers = λ number entry filter is there whole. (
         let own = are.of_pattern number entry is in
-        let told = w.each number own.0 filter own.1 there in
+        let reported = w.each number own.0 filter own.1 there in
         words_answer_searches own.0 (regular number own.0 own.1) table entry
         (name_in_pattern trees number own.0 own.1 name table written)
         (InPattern trees number own.0 own.1 name table written)
         (part_of_list trees number own.0 own.1 name table written)
         (entry_of_part trees number own.0 own.1 name table written entry own.2)
-        filter.words told.words (told.all whole));
+        filter.words reported.words (reported.all whole));
   }
 
   -- words that each tree needs
@@ -186,9 +187,9 @@ module _ (trees : List Tree) (regular : AreRegularPatterns trees) (name : ℕ �
       dead number entry is haystack i (λ j m. out (needs haystack i j m))
 
   -- those of which each match reads a character
-  pub listed_reads : length entries ≡ length trees → (told : List Bool) → TellReading trees told
-      → AreReading table entries told
-  listed_reads all told w = record {
+  pub listed_reads : length entries ≡ length trees → (reported : List Bool) → TellReading trees
+      reported → AreReading table entries reported
+  listed_reads all reported w = record {
     all = w.all ∙ sym all;
     each = λ number entry is yes haystack. (
         let own = are.of_pattern number entry is in
@@ -202,11 +203,11 @@ module _ (trees : List Tree) (regular : AreRegularPatterns trees) (name : ℕ �
   pub listed_ends : length entries ≡ length trees → (numbers : List ℕ)
       → numbers ≡ filter (may_be_empty trees) (range_with_len 0 (length trees))
       → AreAllAtEnd table entries numbers
-  listed_ends all numbers told =
+  listed_ends all numbers reported =
       let test = may_be_empty trees in
       let n = length entries in
       let listed : numbers ≡ filter test (range_with_len 0 n) =
-      told ∙ ap (λ k. filter test (range_with_len 0 k)) (sym all) in
+      reported ∙ ap (λ k. filter test (range_with_len 0 k)) (sym all) in
       let size = ap length listed in
       let most = filter_at_most test 0 n in
       record {
@@ -224,33 +225,33 @@ module _ (trees : List Tree) (regular : AreRegularPatterns trees) (name : ℕ �
       }
 
   -- what the index of several trees says holds for these places
-  pub listed_heads : length entries ≡ length trees → (heads : ListHeads)
-      → AreHeadsOfTrees trees heads → AreListHeadsOf table entries heads
-  listed_heads all heads w = record {
+  pub listed_prefixes : length entries ≡ length trees → (prefixes : PrefixIndex)
+      → IsPrefixIndexOfTrees trees prefixes → IsPrefixIndexOf table entries prefixes
+  listed_prefixes all prefixes w = record {
     count = w.count ∙ sym all;
-    walkable = walkable w.parts heads w.index (w.of_trees.all ∙ sym w.count);
+    walkable = walkable w.parts prefixes w.index (w.of_trees.all ∙ sym w.count);
     any = λ haystack p never number entry is. (
         let own = are.of_pattern number entry is in
         let part = own_part number own.0 own.1 in
         dead number entry is haystack p
-        (none_matches w.parts heads.any part.0 number w.index.any part.1 own.0
+        (none_matches w.parts prefixes.any part.0 number w.index.any part.1 own.0
         (w.of_trees.each number own.0 part.0 own.1 part.1) haystack p never));
     each = λ haystack p number entry is off. (
         let own = are.of_pattern number entry is in
         let part = own_part number own.0 own.1 in
         dead number entry is haystack p
-        (left_out_matches w.parts heads w.index part.0 number part.1
+        (left_out_matches w.parts prefixes w.index part.0 number part.1
         (omega (arith, slice_get_within trees number own.0 own.1, w.count)) own.0
         (w.of_trees.each number own.0 part.0 own.1 part.1) haystack p off));
     third = λ haystack p number entry is off. (
         let own = are.of_pattern number entry is in
         dead number entry is haystack p
-        (stuck_matches heads.thirds number own.0 (λ mask at. w.thirds number own.0 mask own.1 at)
-        haystack p off));
+        (stuck_matches prefixes.third_masks number own.0
+        (λ mask at. w.third_masks number own.0 mask own.1 at) haystack p off));
   }
     where
       own_part : (number : ℕ) (tree : Tree) → slice_get trees number ≡ Some tree
-          → (part : Heads) × (slice_get w.parts number ≡ Some part)
+          → (part : PrefixSets) × (slice_get w.parts number ≡ Some part)
       own_part number tree there =
           there_is w.parts number
           (omega (arith, slice_get_within trees number tree there, w.of_trees.all))

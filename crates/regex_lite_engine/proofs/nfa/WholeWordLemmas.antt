@@ -165,9 +165,9 @@ module _ (tree : Tree) (regular : IsRegular tree) (words : List (List Letter))
 -- the same where the words are known of a tree
 pub words_answer : (tree : Tree) → IsRegular tree → (table : List (Place ℕ)) (start : ℕ)
     (name : ℕ → Address) (Part : ℕ → Type 0) → IsPart (written_out tree) name table Part
-    → IsPartNumber name Part start_address start → (told : Option (List (List Letter)))
-    → IfSome told (AreWordsOfTree tree) → IfSome told (IsItsWords tree)
-    → IfSome told (IsAnsweredBy table start)
+    → IsPartNumber name Part start_address start → (reported : Option (List (List Letter)))
+    → IfSome reported (AreWordsOfTree tree) → IfSome reported (IsItsWords tree)
+    → IfSome reported (IsAnsweredBy table start)
 words_answer tree regular table start name Part r entry None begin are = tt
 words_answer tree regular table start name Part r entry (Some words) begin are =
     λ bytes from span utf8 edge next.

@@ -8,7 +8,7 @@ pub mod NumberingLemmas
 pub mod AddedLemmas
 pub mod OnePlaceLemmas
 pub mod RenumberingLemmas
-pub mod RoomLemmas
+pub mod CapacityLemmas
 pub mod SeveralLemmas
 pub mod SeveralNameLemmas
 pub mod SeveralRowLemmas

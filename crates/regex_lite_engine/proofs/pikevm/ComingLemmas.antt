@@ -3,8 +3,8 @@
 use Rattle.regex_lite_engine.proofs.Common.{◌≡◌, ℕ, ◌<◌, ◌≤◌, ◌⊎◌, List, [], None, Option, sym}
 use Rattle.regex_lite_engine.proofs.Common.{refl, subst, inl, inr, arith, cases_lt, Text, Thread}
 use Rattle.regex_lite_engine.proofs.Common.{IsComing, IsComingTo, ThreadsHold, InStep, IsDead}
-use Rattle.regex_lite_engine.proofs.Common.{numbered_step, is_wanted_end, Bool, false}
-use Rattle.regex_lite_engine.proofs.Common.{is_end, IsEntry, StartsOf, Node, Offer, StartsBelow}
+use Rattle.regex_lite_engine.proofs.Common.{numbered_step, is_wanted_end, Bool, false, is_end}
+use Rattle.regex_lite_engine.proofs.Common.{IsEntry, StartsOf, Node, PendingNode, StartsBelow}
 use Rattle.regex_lite_engine.proofs.Common.{IsDeadAt}
 use Rattle.regex_lite_engine.specs.Graph.Places.{Place}
 use Rattle.regex_lite_syntax.proofs.OptionLemmas.{not_there}
@@ -12,8 +12,8 @@ use Rattle.regex_lite_engine.proofs.pikevm.InStepNextLemmas as deep
 use Rattle.regex_lite_engine.proofs.pikevm.WalkLemmas.{none_held}
 
 module _ (table : List (Place ℕ)) (haystack : Text) (s : List ℕ) (first last : ℕ) where
-  abbrev In_step : ℕ → ℕ → (Node → Option (List ℕ)) → List (Offer Node) → List (Offer Node)
-      → Option (List ℕ) → Type 0
+  abbrev In_step : ℕ → ℕ → (Node → Option (List ℕ)) → List (PendingNode Node) → List
+      (PendingNode Node) → Option (List ℕ) → Type 0
   In_step p from recorded cur next way =
       InStep table haystack s false first last p from recorded cur next way
 

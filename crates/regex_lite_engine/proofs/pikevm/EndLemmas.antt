@@ -9,7 +9,7 @@ use Rattle.regex_lite_engine.proofs.Common.{read_past, taken, arrived, arrow_tak
 use Rattle.regex_lite_engine.proofs.Common.{Thread, IsComing, IsComingTo, ThreadsHold, InStep}
 use Rattle.regex_lite_engine.proofs.Common.{Found, IsGrown}
 use Rattle.regex_lite_engine.proofs.Common.{marks_along, place_with, numbered_step, is_wanted_end}
-use Rattle.regex_lite_engine.proofs.Common.{StartsOf, Best, Node, Offer, StartsBelow}
+use Rattle.regex_lite_engine.proofs.Common.{StartsOf, Best, Node, PendingNode, StartsBelow}
 use Rattle.std.proofs.Math.Nat.{mul-suc}
 use Rattle.regex_lite_engine.specs.Search.NumberedAnswer.{IsNumberedFound}
 use Rattle.regex_lite_engine.specs.Search.NumberedOutcomes.{IsBestOutcome, IsBestOutcomeOf}
@@ -17,7 +17,7 @@ use Rattle.regex_lite_engine.specs.Search.NumberedOutcomes.{IsBestOutcomeTo, IsW
 use Rattle.std.specs.Option.{IsSome}
 use Rattle.regex_lite_syntax.specs.Text.{before}
 use Rattle.regex_lite_engine.specs.Graph.Places.{Place}
-use Rattle.regex_lite_engine.specs.Pikevm.Turns.{FromIs}
+use Rattle.regex_lite_engine.specs.Pikevm.Stepping.{FromIs}
 use Rattle.regex_lite_engine.specs.Pikevm.Walking.{BestHolds}
 use Rattle.regex_lite_engine.proofs.laws.several.OverListLemmas.{IsOverOf, list_answer_when_over}
 use Rattle.regex_lite_engine.proofs.search.OneStartLemmas.{only_entry}
@@ -73,8 +73,8 @@ step_onward haystack (with_arrows arrows) i k m e = go (slice_get arrows k) e
 
 module _ (table : List (Place ℕ)) (haystack : Text) (s : List ℕ) (whole : Bool) (first last : ℕ)
     (within : last ≤ length haystack) where
-  nothing_beyond : (p from : ℕ) (recorded : Node → Option (List ℕ)) (coming : List (Offer Node))
-      (way : Option (List ℕ))
+  nothing_beyond : (p from : ℕ) (recorded : Node → Option (List ℕ))
+      (coming : List (PendingNode Node)) (way : Option (List ℕ))
       → length haystack < p →
       InStep table haystack s whole first last p from recorded coming [] way →
       ((n : Node) (v : List ℕ) → recorded n ≡ Some v → n.1 < p) → p ≡ suc (length haystack)
@@ -188,8 +188,8 @@ module _ (table : List (Place ℕ)) (haystack : Text) (s : List ℕ) (first : �
   anywhere : (best : Best) → IsBestOutcomeTo table haystack s first (length haystack) best
       → IsBestOutcomeOf table haystack s first best
   anywhere None none = λ i k way q j m. none i k way q j m.is_match.inside m
-  anywhere (Some best) (number, found, (up_to, is), told, at, held) =
-      (number, found, is, told, at, held)
+  anywhere (Some best) (number, found, (up_to, is), reported, at, held) =
+      (number, found, is, reported, at, held)
 
   pub ended_all : (p : ℕ) (cur : List Thread) (best : Best) → first ≤ p → p ≤ length haystack →
       ((p ≡ length haystack) ⊎ ((best ≡ None → ⊥) × (length cur ≡ 0)))
@@ -215,7 +215,7 @@ one_best table haystack s first (Some b) (number, found, is, from, to, held) = (
   found,
   subst (λ z. IsNumberedFound table haystack z first found)
       (sym (only_entry s number is.entry is.is_entry).1) is.answer,
-  from.start_told,
+  from.start_reported,
   to,
   held,
 )

@@ -7,11 +7,11 @@ use Rattle.regex_lite_engine.proofs.Common.{arith, length-map, set-get_or, in_ra
 use Rattle.regex_lite_engine.proofs.Common.{after, holds_between, ClassRange, Arrow, with_arrows}
 use Rattle.regex_lite_engine.proofs.Common.{read_past, go, go_marking, go_holding, go_reading}
 use Rattle.regex_lite_engine.proofs.Common.{one_of, arrived, step_from, arrow_count, place_of}
-use Rattle.regex_lite_engine.proofs.Common.{reads, pushing, reading_on, Thread, WayTold}
-use Rattle.regex_lite_engine.proofs.Common.{ThreadsHold, SearchAt, Told, Marks, marked, over}
+use Rattle.regex_lite_engine.proofs.Common.{reads, pushing, reading_on, Thread, WayReported}
+use Rattle.regex_lite_engine.proofs.Common.{ThreadsHold, SearchAt, Reported, Marks, marked, over}
 use Rattle.regex_lite_engine.proofs.Common.{mark_of, place_with, is_complete, numbered_step, Best}
 use Rattle.regex_lite_engine.proofs.Common.{are_wanted_before, is_wanted_end}
-use Rattle.regex_lite_engine.proofs.Common.{Node, Offer, HasSlots, Row, IsHere, Here}
+use Rattle.regex_lite_engine.proofs.Common.{Node, PendingNode, HasSlots, Row, IsHere, Here}
 use Rattle.std.proofs.lemmas.List.{set-set}
 use Rattle.regex_lite_engine.specs.declared.nfa.place.Place as code
 use Rattle.regex_lite_engine.specs.declared.nfa.place.Place.TheVariants as stored
@@ -22,8 +22,8 @@ use Rattle.regex_lite_engine.specs.Pikevm.Walking.{FramesHold, IsWalking}
 use Rattle.regex_lite_engine.proofs.search.MarkLemmas.{slots_set, slots_past}
 use Rattle.regex_lite_syntax.proofs.OptionLemmas.{not_there, same_some}
 use Rattle.regex_lite_engine.proofs.search.PlaceLemmas.{free_stays, free_marks, hops, no_second}
-use Rattle.regex_lite_engine.proofs.search.PlaceLemmas.{none_offered, one_blocked, one}
-use Rattle.regex_lite_engine.proofs.search.PlaceLemmas.{wide, offered_by}
+use Rattle.regex_lite_engine.proofs.search.PlaceLemmas.{none_is_pending, one_blocked, one}
+use Rattle.regex_lite_engine.proofs.search.PlaceLemmas.{wide, is_pending_by}
 use Rattle.regex_lite_engine.proofs.pikevm.WalkLemmas.{marked_in, holds_on, held_append}
 use Rattle.regex_lite_engine.proofs.pikevm.WalkLemmas.{walk_entered, walk_read, walk_complete}
 use Rattle.regex_lite_engine.proofs.search.WantedLemmas.{open_wanted}
@@ -33,23 +33,23 @@ pub reads_none : (o : Option ℕ) → reads (in_ranges []) o ≡ false
 reads_none None = refl
 reads_none (Some c) = refl
 
-module _ (table : List (Place ℕ)) (at : SearchAt) (state : State) (i : Told) (ways : List Thread)
-    (best : Best) (q : ℕ) (short : q < length state.entered)
+module _ (table : List (Place ℕ)) (at : SearchAt) (state : State) (i : Reported)
+    (ways : List Thread) (best : Best) (q : ℕ) (short : q < length state.entered)
     (walking : IsWalking table at (record state { frames = explore q ∷ state.frames }) i ways best)
     (new : slice_index_or state.entered q false ≡ true → ⊥) where
   open at use {haystack, whole, p}
 
-  abbrev Told_way : Row → Node → List ℕ → Type 0
-  Told_way = WayTold table haystack at.entries i
+  abbrev Reported_way : Row → Node → List ℕ → Type 0
+  Reported_way = WayReported table haystack at.entries i
 
-  abbrev Frames_hold : Row → List Job → List (Offer Node) → Type 0
+  abbrev Frames_hold : Row → List Job → List (PendingNode Node) → Type 0
   Frames_hold = FramesHold table haystack at.entries p i
 
   abbrev step : ℕ → Option Node
   step = numbered_step table haystack (q, p)
 
-  abbrev listed : List ℕ → ℕ → List (Offer Node)
-  listed w c = offered_by table haystack (place_with table q) p w c 0
+  abbrev listed : List ℕ → ℕ → List (PendingNode Node)
+  listed w c = is_pending_by table haystack (place_with table q) p w c 0
 
   -- the place was entered, and the walk goes on from there
   abbrev Walks : State → Type 0
@@ -65,7 +65,7 @@ module _ (table : List (Place ℕ)) (at : SearchAt) (state : State) (i : Told) (
       walk_entered table at state i ways best q short walking new state.row state.frames open_still
       (λ a l hops. absurd (not_there (sym (blocked a) ∙ hops)))
       (λ w rest held waits. subst (λ z. Frames_hold state.row state.frames (z ++ rest))
-      (sym (none_offered table haystack q p blocked w (wide table haystack (q, p)) 0)) waits)
+      (sym (none_is_pending table haystack q p blocked w (wide table haystack (q, p)) 0)) waits)
 
   -- no arrow fits
   walk_blocked : (arrows : List (Arrow ℕ)) → place_with table q ≡ with_arrows arrows
@@ -86,11 +86,11 @@ module _ (table : List (Place ℕ)) (at : SearchAt) (state : State) (i : Told) (
       (sym (length-map to go) ∙ sym (ap arrow_count e))
       (all_listed to 0 w rest (hops table haystack q p to e) held waits))
     where
-      all_listed : (qs : List ℕ) (j : ℕ) (w : List ℕ) (rest : List (Offer Node))
+      all_listed : (qs : List ℕ) (j : ℕ) (w : List ℕ) (rest : List (PendingNode Node))
           → ((t l : ℕ) → slice_get qs t ≡ Some l → step (j + t) ≡ Some (l, p))
-          → Told_way state.row (q, p) w → Frames_hold state.row state.frames rest
+          → Reported_way state.row (q, p) w → Frames_hold state.row state.frames rest
           → Frames_hold state.row (map (λ l. explore l) qs ++ state.frames)
-          (offered_by table haystack (place_with table q) p w (length qs) j ++ rest)
+          (is_pending_by table haystack (place_with table q) p w (length qs) j ++ rest)
       all_listed [] j w rest hops held waits = waits
       all_listed (l ∷ qs) j w rest hops held waits =
           let same : j + 0 ≡ j = omega arith in
@@ -98,10 +98,10 @@ module _ (table : List (Place ℕ)) (at : SearchAt) (state : State) (i : Told) (
           subst (λ z. step z ≡ Some (l, p)) same (hops 0 l refl) in
           subst
           (λ o. Frames_hold state.row (explore l ∷ (map (λ l. explore l) qs ++ state.frames))
-          ((one table haystack o (w ++ j ∷ []) ++ offered_by table haystack (place_with table q) p w
-          (length qs) (suc j)) ++ rest)) (sym here) (
+          ((one table haystack o (w ++ j ∷ []) ++ is_pending_by table haystack (place_with table q)
+          p w (length qs) (suc j)) ++ rest)) (sym here) (
             w ++ j ∷ [],
-            offered_by table haystack (place_with table q) p w (length qs) (suc j) ++ rest,
+            is_pending_by table haystack (place_with table q) p w (length qs) (suc j) ++ rest,
             refl,
             holds_on table haystack at.entries i state.row state.row (q, p) w j (l, p) held here
                 (λ ms has. subst (λ z. HasSlots haystack state.row (over (marked z p) ms))
@@ -117,8 +117,8 @@ module _ (table : List (Place ℕ)) (at : SearchAt) (state : State) (i : Told) (
       → place_with table q ≡ with_arrows (a ∷ []) → step 0 ≡ Some (to, p) →
       ((ms : Marks) → HasSlots haystack state.row ms
       → HasSlots haystack row (over (marked (mark_of (place_with table q) 0) p) ms)) →
-      ((os : List (Offer Node)) → Frames_hold state.row state.frames os → Frames_hold row frames os)
-      →
+      ((os : List (PendingNode Node)) → Frames_hold state.row state.frames os → Frames_hold row
+      frames os) →
       Walks (record n { row = row; frames = explore to ∷ frames })
   walk_single a to row frames e here marks waits' =
       walk_entered table at state i ways best q short walking new row (explore to ∷ frames)
@@ -157,7 +157,7 @@ module _ (table : List (Place ℕ)) (at : SearchAt) (state : State) (i : Told) (
         tt,
       ))))
     where
-      Held : List (Offer Node) → Type 0
+      Held : List (PendingNode Node) → Type 0
       Held os = ThreadsHold table haystack at.entries (suc p) ((to, i, state.row) ∷ []) os
 
       moves : (b : ℕ) (l : Node) → step b ≡ Some l → l.1 ≡ suc p
@@ -225,7 +225,7 @@ module _ (table : List (Place ℕ)) (at : SearchAt) (state : State) (i : Told) (
     -- a slot is marked
     walk_marked : (slot to : ℕ) (frames : List Job)
         → place_with table q ≡ with_arrows (go_marking slot to ∷ [])
-        → ((os : List (Offer Node)) → Frames_hold state.row state.frames os
+        → ((os : List (PendingNode Node)) → Frames_hold state.row state.frames os
         → Frames_hold (slice_set state.row slot (Some here.at)) frames os)
         → Walks (record n {
           row = slice_set state.row slot (Some here.at);

@@ -4,35 +4,36 @@ use Rattle.regex_lite_engine.proofs.Common.{IsTrue, Some, None, Option, sym, ref
 use Rattle.regex_lite_engine.proofs.Common.{inl, inr, ⊎_elim, arith, NotAfter, IsAnswered, IsGrown}
 use Rattle.regex_lite_engine.proofs.Common.{StartsBelow, IsPreferred}
 use Rattle.regex_lite_engine.specs.Pikevm.InStep as walk
-use Rattle.regex_lite_engine.specs.Search.Offers as offer
+use Rattle.regex_lite_engine.specs.Search.Pending as pending_node
 use Rattle.regex_lite_engine.proofs.search.RecordLemmas.{or_dead}
-use Rattle.regex_lite_engine.proofs.search.OfferLemmas as order
-use Rattle.regex_lite_engine.proofs.search.OfferLemmas.{preferred_before, preferred_append}
-use Rattle.regex_lite_engine.proofs.search.OfferLemmas.{preferred_longer, below_append}
+use Rattle.regex_lite_engine.proofs.search.PendingLemmas as order
+use Rattle.regex_lite_engine.proofs.search.PendingLemmas.{preferred_before, preferred_append}
+use Rattle.regex_lite_engine.proofs.search.PendingLemmas.{preferred_longer, below_append}
 use Rattle.regex_lite_engine.proofs.search.RecordLemmas as records
 use Rattle.regex_lite_engine.proofs.laws.search.WayOrderLemmas.{NotAfter-trans, NotAfter-append}
 
 module _ (N : Type 0) (step : N → ℕ → Option N) (same : (x y : N) → (x ≡ y) ⊎ (x ≡ y → ⊥))
     (width : N → ℕ) (no_more : (n : N) (k : ℕ) → width n ≤ k → step n k ≡ None)
     (IsStart : List ℕ → N → Type 0) (is_end : N → Bool) (position : N → ℕ) where
-  abbrev Offer : Type 0
-  Offer = offer.Offer N
+  abbrev PendingNode : Type 0
+  PendingNode = pending_node.PendingNode N
 
-  abbrev In : N → List ℕ → List Offer → Type 0
-  In n w os = offer.In N n w os
+  abbrev In : N → List ℕ → List PendingNode → Type 0
+  In n w os = pending_node.In N n w os
 
   abbrev pub Recorded : Type 0
   Recorded = N → Option (List ℕ)
 
-  abbrev offers : N → List ℕ → ℕ → ℕ → List Offer
-  offers = order.offers N step
+  abbrev pending : N → List ℕ → ℕ → ℕ → List PendingNode
+  pending = order.pending N step
 
-  abbrev pub IsInStep : ℕ → ℕ → Recorded → List Offer → List Offer → Option (List ℕ) → Type 0
+  abbrev pub IsInStep : ℕ → ℕ → Recorded → List PendingNode → List PendingNode → Option (List ℕ)
+      → Type 0
   IsInStep p from recorded now next best =
       walk.IsInStep N step IsStart is_end position p from recorded now next best
 
   module _ {p from : ℕ} {recorded : Recorded} {n : N} {w : List ℕ} (fresh : recorded n ≡ None)
-      {rest next : List Offer} {best : Option (List ℕ)}
+      {rest next : List PendingNode} {best : Option (List ℕ)}
       (known : IsInStep p from recorded ((n, w) ∷ rest) next best) where
     abbrev extended : Recorded
     extended = records.extended N same recorded n w
@@ -60,9 +61,9 @@ module _ (N : Type 0) (step : N → ℕ → Option N) (same : (x y : N) → (x �
         (known.now_grown n w here)
 
     -- the record of n stands for the offer at n
-    settle_on : (rest' next' : List Offer) → ((m : N) (x : List ℕ) → In m x rest → In m x rest')
-        → ((m : N) (x : List ℕ) → In m x next → In m x next') →
-        (m : N) (x : List ℕ)
+    settle_on : (rest' next' : List PendingNode)
+        → ((m : N) (x : List ℕ) → In m x rest → In m x rest')
+        → ((m : N) (x : List ℕ) → In m x next → In m x next') → (m : N) (x : List ℕ)
         → IsAnswered N step is_end IsStart recorded best m x
         ⊎ (In m x ((n, w) ∷ rest) ⊎ In m x next) →
         IsAnswered N step is_end IsStart extended best m x ⊎ (In m x rest' ⊎ In m x next')
@@ -74,15 +75,15 @@ module _ (N : Type 0) (step : N → ℕ → Option N) (same : (x y : N) → (x �
         inl (inl (w, ap extended e.0 ∙ extended_here, inl (sym e.1)))
 
     -- its own arrows
-    abbrev own : List Offer
-    own = offers n w (width n) 0
+    abbrev own : List PendingNode
+    own = pending n w (width n) 0
 
-    arrow_offered : (k : ℕ) (l : N) → step n k ≡ Some l → In l (w ++ k ∷ []) own
-    arrow_offered = order.arrow_offered N step n w (width n) (no_more n)
+    arrow_is_pending : (k : ℕ) (l : N) → step n k ≡ Some l → In l (w ++ k ∷ []) own
+    arrow_is_pending = order.arrow_is_pending N step n w (width n) (no_more n)
 
     one_of : (m : N) (v : List ℕ) → In m v own
         → (j : ℕ) × (0 ≤ j) × (step n j ≡ Some m) × (v ≡ w ++ j ∷ [])
-    one_of = order.offered N step n w (width n) 0
+    one_of = order.is_pending N step n w (width n) 0
 
     own_grown : (m : N) (v : List ℕ) → In m v own → IsGrown N step is_end IsStart extended best m v
     own_grown m v i = let r = one_of m v i in inr (n, w, r.0, extended_here, r.2, r.3)
@@ -121,7 +122,7 @@ module _ (N : Type 0) (step : N → ℕ → Option N) (same : (x y : N) → (x �
         → (m : N) × IsTrue (is_end m) × (extended m ≡ Some b)
     best_ends_now b e = let r = known.best_ends b e in (r.0, r.1, kept r.0 b r.2)
 
-    arrows_settled : (rest' next' : List Offer)
+    arrows_settled : (rest' next' : List PendingNode)
         → ((m : N) (x : List ℕ) → In m x rest → In m x rest')
         → ((m : N) (x : List ℕ) → In m x next → In m x next') →
         ((k : ℕ) (l : N) → step n k ≡ Some l → In l (w ++ k ∷ []) rest' ⊎ In l (w ++ k ∷ []) next')
@@ -156,11 +157,11 @@ module _ (N : Type 0) (step : N → ℕ → Option N) (same : (x y : N) → (x �
       arrows =
           arrows_settled (own ++ rest) next
           (λ m v j. order.in_right N step m v own rest j) (λ m v j. j)
-          (λ k l s. inl (order.in_left N step l (w ++ k ∷ []) own rest (arrow_offered k l s)));
+          (λ k l s. inl (order.in_left N step l (w ++ k ∷ []) own rest (arrow_is_pending k l s)));
       best_ends = best_ends_now;
       best_least = not_ended open_still;
       now_ordered =
-          order.offers_ordered N step n w (width n) 0 rest known.now_ordered.1 known.now_ordered.0;
+          order.pending_ordered N step n w (width n) 0 rest known.now_ordered.1 known.now_ordered.0;
       next_ordered = known.next_ordered;
       now_after = λ m v l x i j. by_now_after m v l x i (either l x j);
       ahead = λ m v l x i r q. by_ahead m v l x q (either m v i) (back l x r);
@@ -219,12 +220,12 @@ module _ (N : Type 0) (step : N → ℕ → Option N) (same : (x y : N) → (x �
       arrows =
           arrows_settled rest (next ++ own) (λ m v j. j)
           (λ m v j. order.in_left N step m v next own j)
-          (λ k l s. inr (order.in_right N step l (w ++ k ∷ []) next own (arrow_offered k l s)));
+          (λ k l s. inr (order.in_right N step l (w ++ k ∷ []) next own (arrow_is_pending k l s)));
       best_ends = best_ends_now;
       best_least = not_ended open_still;
       now_ordered = known.now_ordered.1;
       next_ordered =
-          order.offers_after N step n w (width n) next known.next_ordered
+          order.pending_after N step n w (width n) next known.next_ordered
           (λ m v i. known.now_after m v n w i here);
       now_after = λ m v l x i j.
           ⊎_elim (λ k. known.now_after m v l x k (inr j)) (by_now_after m v l x j) (either m v i);

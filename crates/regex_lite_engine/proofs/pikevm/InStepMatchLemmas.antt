@@ -4,31 +4,32 @@ use Rattle.regex_lite_engine.proofs.Common.{◌≡◌, ℕ, ◌≤◌, Bool, ◌
 use Rattle.regex_lite_engine.proofs.Common.{Some, None, Option, sym, refl, ap, ◌∙◌, subst, inl, inr}
 use Rattle.regex_lite_engine.proofs.Common.{NotAfter, IsAnswered, IsGrown, StartsBelow, IsPreferred}
 use Rattle.regex_lite_engine.specs.Pikevm.InStep as walk
-use Rattle.regex_lite_engine.specs.Search.Offers as offer
+use Rattle.regex_lite_engine.specs.Search.Pending as pending_node
 use Rattle.regex_lite_engine.proofs.pikevm.InStepLemmas as deep
 use Rattle.regex_lite_engine.proofs.search.RecordLemmas.{or_dead}
 use Rattle.regex_lite_syntax.proofs.OptionLemmas.{not_there, same_some}
-use Rattle.regex_lite_engine.proofs.search.OfferLemmas.{preferred_before}
+use Rattle.regex_lite_engine.proofs.search.PendingLemmas.{preferred_before}
 use Rattle.regex_lite_engine.proofs.search.RecordLemmas as records
 use Rattle.regex_lite_engine.proofs.laws.search.WayOrderLemmas.{Before-trans, NotAfter-trans}
 
 module _ (N : Type 0) (step : N → ℕ → Option N) (IsStart : List ℕ → N → Type 0)
     (is_end : N → Bool) (position : N → ℕ) where
-  abbrev Offer : Type 0
-  Offer = offer.Offer N
+  abbrev PendingNode : Type 0
+  PendingNode = pending_node.PendingNode N
 
-  abbrev In : N → List ℕ → List Offer → Type 0
-  In n w os = offer.In N n w os
+  abbrev In : N → List ℕ → List PendingNode → Type 0
+  In n w os = pending_node.In N n w os
 
   abbrev Recorded : Type 0
   Recorded = N → Option (List ℕ)
 
-  abbrev IsInStep : ℕ → ℕ → Recorded → List Offer → List Offer → Option (List ℕ) → Type 0
+  abbrev IsInStep : ℕ → ℕ → Recorded → List PendingNode → List PendingNode → Option (List ℕ) → Type
+      0
   IsInStep p from recorded now next best =
       walk.IsInStep N step IsStart is_end position p from recorded now next best
 
   pub in_step_passed : {p from : ℕ} {recorded : Recorded} {n : N} {w v : List ℕ}
-      {rest next : List Offer} {best : Option (List ℕ)}
+      {rest next : List PendingNode} {best : Option (List ℕ)}
       → recorded n ≡ Some v →
       IsInStep p from recorded ((n, w) ∷ rest) next best → IsInStep p from recorded rest next best
   in_step_passed {recorded} {n} {w} {v} {rest} {next} {best} r u = record {
@@ -70,7 +71,7 @@ module _ (N : Type 0) (step : N → ℕ → Option N) (IsStart : List ℕ → N 
   module _ (same : (x y : N) → (x ≡ y) ⊎ (x ≡ y → ⊥)) (width : N → ℕ)
       (no_more : (n : N) (k : ℕ) → width n ≤ k → step n k ≡ None) {p from : ℕ}
       {recorded : Recorded} {n : N} {w : List ℕ} (fresh : recorded n ≡ None)
-      {rest next : List Offer} {best : Option (List ℕ)}
+      {rest next : List PendingNode} {best : Option (List ℕ)}
       (u : IsInStep p from recorded ((n, w) ∷ rest) next best) where
     abbrev extended : Recorded
     extended = records.extended N same recorded n w

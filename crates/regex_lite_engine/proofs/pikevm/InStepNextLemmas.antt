@@ -4,28 +4,29 @@ use Rattle.regex_lite_engine.proofs.Common.{Some, None, Option, sym, refl, ◌�
 use Rattle.regex_lite_engine.proofs.Common.{⊎_elim, arith, cases_lt, IsDead, IsAnswered, IsGrown}
 use Rattle.regex_lite_engine.proofs.Common.{StartsBelow, IsPreferred}
 use Rattle.regex_lite_engine.specs.Pikevm.InStep as walk
-use Rattle.regex_lite_engine.specs.Search.Offers as offer
+use Rattle.regex_lite_engine.specs.Search.Pending as pending_node
 use Rattle.regex_lite_syntax.proofs.OptionLemmas.{not_there}
 use Rattle.regex_lite_engine.proofs.laws.search.Explored.{IsExplored}
-use Rattle.regex_lite_engine.proofs.search.OfferLemmas as order
-use Rattle.regex_lite_engine.proofs.search.OfferLemmas.{preferred_before, below_front, below_up}
+use Rattle.regex_lite_engine.proofs.search.PendingLemmas as order
+use Rattle.regex_lite_engine.proofs.search.PendingLemmas.{preferred_before, below_front, below_up}
 use Rattle.regex_lite_engine.proofs.search.RecordLemmas.{or_dead}
 
 module _ (N : Type 0) (step : N → ℕ → Option N) (IsStart : List ℕ → N → Type 0)
     (is_end : N → Bool) (position : N → ℕ) where
-  abbrev Offer : Type 0
-  Offer = offer.Offer N
+  abbrev PendingNode : Type 0
+  PendingNode = pending_node.PendingNode N
 
-  abbrev In : N → List ℕ → List Offer → Type 0
-  In n w os = offer.In N n w os
+  abbrev In : N → List ℕ → List PendingNode → Type 0
+  In n w os = pending_node.In N n w os
 
-  abbrev Ordered : List Offer → Type 0
-  Ordered os = offer.Ordered N os
+  abbrev Ordered : List PendingNode → Type 0
+  Ordered os = pending_node.Ordered N os
 
   abbrev Recorded : Type 0
   Recorded = N → Option (List ℕ)
 
-  abbrev pub IsInStep : ℕ → ℕ → Recorded → List Offer → List Offer → Option (List ℕ) → Type 0
+  abbrev pub IsInStep : ℕ → ℕ → Recorded → List PendingNode → List PendingNode → Option (List ℕ)
+      → Type 0
   IsInStep p from recorded now next best =
       walk.IsInStep N step IsStart is_end position p from recorded now next best
 
@@ -98,7 +99,7 @@ module _ (N : Type 0) (step : N → ℕ → Option N) (IsStart : List ℕ → N 
   }
 
   -- starts from which no arrows lead to an end are left out
-  pub in_step_skip : {p from from' : ℕ} {recorded : Recorded} {now next : List Offer}
+  pub in_step_skip : {p from from' : ℕ} {recorded : Recorded} {now next : List PendingNode}
       {best : Option (List ℕ)}
       → from ≤ from' →
       ((front : List ℕ) (n : N) → IsStart front n → StartsBelow from' front
@@ -159,8 +160,8 @@ module _ (N : Type 0) (step : N → ℕ → Option N) (IsStart : List ℕ → N 
   }
 
   -- the position's own starts, last and in their order. Those that are dead may be left out
-  pub in_step_begin : {p : ℕ} {recorded : Recorded} {now : List Offer} (begun : List Offer) →
-      ((m : N) (v : List ℕ) → In m v begun
+  pub in_step_begin : {p : ℕ} {recorded : Recorded} {now : List PendingNode}
+      (begun : List PendingNode) → ((m : N) (v : List ℕ) → In m v begun
       → IsStart v m × (position m ≡ p) × ((rest : List ℕ) × (v ≡ p ∷ rest))) →
       Ordered begun →
       ((front : List ℕ) (n : N) → IsStart front n → StartsBelow (suc p) front
@@ -217,8 +218,8 @@ module _ (N : Type 0) (step : N → ℕ → Option N) (IsStart : List ℕ → N 
           inl (inr (inl (order.in_right N step n front now begun i)))
       by_start front n is (inr (inr gone)) = inr gone
 
-      joined : (os : List Offer) → Ordered os → ((m : N) (v : List ℕ) → In m v os → StartsBelow p v)
-          → Ordered (os ++ begun)
+      joined : (os : List PendingNode) → Ordered os
+          → ((m : N) (v : List ℕ) → In m v os → StartsBelow p v) → Ordered (os ++ begun)
       joined [] o f = begun_ordered
       joined (a ∷ os) o f = (
         (λ m v i. ⊎_elim (λ j. o.0 m v j)
@@ -230,15 +231,15 @@ module _ (N : Type 0) (step : N → ℕ → Option N) (IsStart : List ℕ → N 
       )
 
   -- the next position, with no start of its own
-  pub in_step_next_alone : {p from : ℕ} {recorded : Recorded} {next : List Offer}
+  pub in_step_next_alone : {p from : ℕ} {recorded : Recorded} {next : List PendingNode}
       {best : Option (List ℕ)} →
       IsInStep p from recorded [] next best → IsInStep (suc p) from recorded next [] best
   in_step_next_alone {p} {recorded} {next} {best} u = record {
     grown = u.grown;
     now_grown = u.next_grown;
     next_grown = λ m v i. absurd i;
-    starts = λ front m is below. or_dead (turn m front) (u.starts front m is below);
-    arrows = λ m v k l r s. turn l (v ++ k ∷ []) (u.arrows m v k l r s);
+    starts = λ front m is below. or_dead (next_step m front) (u.starts front m is below);
+    arrows = λ m v k l r s. next_step l (v ++ k ∷ []) (u.arrows m v k l r s);
     best_ends = u.best_ends;
     best_least = u.best_least;
     now_ordered = u.next_ordered;
@@ -258,9 +259,9 @@ module _ (N : Type 0) (step : N → ℕ → Option N) (IsStart : List ℕ → N 
       too_far : (l : N) (x : List ℕ) → recorded l ≡ Some x → position l ≡ suc p → ⊥
       too_far l x r q = let le = u.past l x r in absurd (omega (arith, le, q))
 
-      turn : (m : N) (x : List ℕ)
+      next_step : (m : N) (x : List ℕ)
           → IsAnswered N step is_end IsStart recorded best m x ⊎ (⊥ ⊎ In m x next) →
           IsAnswered N step is_end IsStart recorded best m x ⊎ (In m x next ⊎ ⊥)
-      turn m x (inl a) = inl a
-      turn m x (inr (inl i)) = absurd i
-      turn m x (inr (inr i)) = inr (inl i)
+      next_step m x (inl a) = inl a
+      next_step m x (inr (inl i)) = absurd i
+      next_step m x (inr (inr i)) = inr (inl i)

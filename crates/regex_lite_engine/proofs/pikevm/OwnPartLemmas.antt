@@ -3,11 +3,11 @@ use Rattle.regex_lite_engine.proofs.Common.{◌≡◌, ℕ, zero, suc, ◌+◌, 
 use Rattle.regex_lite_engine.proofs.Common.{take, drop, if◌then◌else◌, Bool, true, false}
 use Rattle.regex_lite_engine.proofs.Common.{slice_index_or, refl, Some, sum_by, Option, subst}
 use Rattle.regex_lite_engine.proofs.Common.{arith, length-take, sum_by-cons, IsWithin, row_of}
-use Rattle.regex_lite_engine.proofs.Common.{IsOwnPart, InStep, SearchAt, numbered_step}
-use Rattle.regex_lite_engine.proofs.Common.{StartsOf, Node, Offer, Text, Leads, WayTold, Row, Told}
-use Rattle.regex_lite_engine.proofs.Common.{IsEntry, is_wanted_end}
+use Rattle.regex_lite_engine.proofs.Common.{IsOwnPart, InStep, SearchAt, numbered_step, StartsOf}
+use Rattle.regex_lite_engine.proofs.Common.{Node, PendingNode, Text, Leads, WayReported, Row}
+use Rattle.regex_lite_engine.proofs.Common.{Reported, IsEntry, is_wanted_end}
 use Rattle.regex_lite_engine.specs.Graph.Places.{Place}
-use Rattle.regex_lite_engine.specs.Pikevm.Room.{left_of}
+use Rattle.regex_lite_engine.specs.Pikevm.Capacity.{left_of}
 use Rattle.regex_lite_engine.proofs.laws.search.NumberedWayLemmas.{leads_within}
 use Rattle.regex_lite_engine.proofs.laws.search.RecordedWayLemmas.{traced}
 
@@ -24,15 +24,15 @@ module _ (table : List (Place ℕ)) (haystack : Text) (entries : List ℕ) (low 
       within q inside = let high = part.inside in omega (arith, high, inside.1)
 
   -- and so does a way that is followed
-  pub told_within : (told : Told) (row : Row) (n : Node) (way : List ℕ)
-      → WayTold table haystack entries told row n way → IsWithin low len n.0
-  told_within told row n way (from, number, entry, arrows, tells, is, front, along, slots) =
+  pub reported_within : (reported : Reported) (row : Row) (n : Node) (way : List ℕ)
+      → WayReported table haystack entries reported row n way → IsWithin low len n.0
+  reported_within reported row n way (from, number, entry, arrows, tells, is, front, along, slots) =
       entered_within number entry from arrows n is along
 
 -- what is recorded is a place of the part
 pub recorded_within : (table : List (Place ℕ)) (at : SearchAt) (low len : ℕ)
     → IsOwnPart table at.entries low len → (recorded : Node → Option (List ℕ))
-    (now next : List (Offer Node)) (way : Option (List ℕ))
+    (now next : List (PendingNode Node)) (way : Option (List ℕ))
     → InStep table at.haystack at.entries at.whole at.first at.last at.p at.from recorded now next
     way
     → (n : Node) (v : List ℕ) → recorded n ≡ Some v → IsWithin low len n.0

@@ -54,7 +54,7 @@ module _ (f : ℕ → Bool) (count : ℕ) where
 pub members_long : (kept : Marks) (places : ℕ) → length (members kept places) ≡ places
 members_long (marks.Bits bits) places = length_of_bits (bits ∷ []) places
 members_long (marks.Stamps kept) places =
-    listed_long (λ place. is_stamped kept.stamps.items kept.round (places - place)) places
+    listed_long (λ place. is_stamped kept.stamps.items kept.generation (places - place)) places
 
 -- stamps of places that were never in the set
 pub blank_stamp : (n more k : ℕ) → slice_index (take more (replicate n 0)) k ≡ 0

@@ -3,17 +3,17 @@ use Rattle.regex_lite_engine.proofs.Common.{◌≡◌, ℕ, ◌+◌, ◌<◌, �
 use Rattle.regex_lite_engine.proofs.Common.{◌++◌, length, IsTrue, slice_get, Some, None, Option}
 use Rattle.regex_lite_engine.proofs.Common.{sym, refl, ap, ◌∙◌, subst, inl, inr, arith, cases_lt}
 use Rattle.regex_lite_engine.proofs.Common.{Text, after, Leads, NoneTwice, Thread, IsComing, InStep}
-use Rattle.regex_lite_engine.proofs.Common.{Told, IsDead, IsAnswered, place_with, numbered_step}
+use Rattle.regex_lite_engine.proofs.Common.{Reported, IsDead, IsAnswered, place_with, numbered_step}
 use Rattle.regex_lite_engine.proofs.Common.{is_end, is_wanted_end, IsComingTo, IsNumberedMatch}
 use Rattle.regex_lite_engine.proofs.Common.{IsEntry, StartsOf}
-use Rattle.regex_lite_engine.proofs.Common.{IsMatchOfAny, Best, Node, Offer, offset, Row}
+use Rattle.regex_lite_engine.proofs.Common.{IsMatchOfAny, Best, Node, PendingNode, offset, Row}
 use Rattle.regex_lite_engine.specs.Search.NumberedList.{IsWantedOfAny}
 use Rattle.regex_lite_engine.specs.Search.NumberedOutcomes.{IsNumberedEndOf}
 use Rattle.regex_lite_syntax.specs.Text.{before}
 use Rattle.regex_lite_syntax.proofs.ListLemmas.{same_head, same_tail}
 use Rattle.regex_lite_engine.specs.Graph.Places.{Place}
-use Rattle.regex_lite_engine.specs.Search.Offers.{In}
-use Rattle.regex_lite_engine.specs.Pikevm.Turns.{EndsAt}
+use Rattle.regex_lite_engine.specs.Search.Pending.{In}
+use Rattle.regex_lite_engine.specs.Pikevm.Stepping.{EndsAt}
 use Rattle.regex_lite_engine.specs.Pikevm.Walking.{BestHolds}
 use Rattle.regex_lite_engine.proofs.laws.LeadsLemmas.{leads_to_one}
 use Rattle.regex_lite_engine.proofs.laws.several.OverListLemmas.{differ}
@@ -49,7 +49,7 @@ module _ (table : List (Place ℕ)) (haystack : Text) where
       pub is_match : IsWantedOfAny table haystack entries whole s start number way place end
 
     -- the best match is one
-    pub best_matches : (p : ℕ) (threads : List Thread) (b : Told × ℕ × Row)
+    pub best_matches : (p : ℕ) (threads : List Thread) (b : Reported × ℕ × Row)
         → IsComingTo table haystack entries whole s last p threads (Some b) → EndsWith b.1
     best_matches p threads b u = by_way u.best_holds
       where
@@ -120,7 +120,7 @@ module _ (table : List (Place ℕ)) (haystack : Text) where
         IsAnswered Node (numbered_step table haystack) (is_end table haystack)
         (StartsOf entries s (length haystack)) recorded best
 
-    abbrev In_step : ℕ → ℕ → (Node → Option (List ℕ)) → List (Offer Node) → Option (List ℕ)
+    abbrev In_step : ℕ → ℕ → (Node → Option (List ℕ)) → List (PendingNode Node) → Option (List ℕ)
         → Type 0
     In_step p from recorded coming way =
         InStep table haystack entries false s (length haystack) p from recorded coming [] way
@@ -129,7 +129,7 @@ module _ (table : List (Place ℕ)) (haystack : Text) where
     Coming = IsComing table haystack entries s (length haystack)
 
     -- while there is no match
-    module _ (p from : ℕ) (recorded : Node → Option (List ℕ)) (coming : List (Offer Node))
+    module _ (p from : ℕ) (recorded : Node → Option (List ℕ)) (coming : List (PendingNode Node))
         (u : In_step p from recorded coming None) where
       -- arrows from a place that was entered lead to no end before the position
       later_than_entered : (ks : List ℕ) (m n : Node) (v : List ℕ) → recorded m ≡ Some v
@@ -237,7 +237,7 @@ module _ (table : List (Place ℕ)) (haystack : Text) where
             ends_here : EndsAt at best best' → b.1 ≡ at
             ends_here (inl same) = absurd (not_there (sym none ∙ sym same ∙ e))
             ends_here (inr (i, row, f)) =
-                ap (λ (z : Told × ℕ × Row). z.1) (same_some (sym e ∙ f))
+                ap (λ (z : Reported × ℕ × Row). z.1) (same_some (sym e ∙ f))
 
 -- of one pattern
 pub one_end : (table : List (Place ℕ)) (haystack : Text) (start s : ℕ) (best : Best)

@@ -2,7 +2,7 @@
 use Rattle.regex_lite_engine.proofs.Common.{◌≡◌, ℕ, ◌+◌, ◌≤◌, [], length, slice_set, ap, ◌∙◌, arith}
 use Rattle.regex_lite_engine.proofs.Common.{length-set, false, replicate, true}
 use Rattle.regex_lite_engine.specs.Pikevm.Machine.{State}
-use Rattle.regex_lite_engine.specs.Pikevm.Room.{KeepsPosition}
+use Rattle.regex_lite_engine.specs.Pikevm.Capacity.{KeepsPosition}
 
 -- a search comes to a position
 pub record BeginsPosition (old new : State) : Type 0 where
@@ -24,9 +24,9 @@ begins_position old new is = record {
 }
 
 -- the threads of the next position become those of this one
-pub turns_over : (old new : State) → new ≡ record old { threads = old.next; next = [] }
+pub swaps_lists : (old new : State) → new ≡ record old { threads = old.next; next = [] }
     → new.threads ≡ old.next
-turns_over old new is = ap (λ (z : State). z.threads) is
+swaps_lists old new is = ap (λ (z : State). z.threads) is
 
 -- only the row and what is left to do change
 pub record KeepsThreads (old new : State) : Type 0 where

@@ -1,19 +1,20 @@
 -- From thread to thread of a position.
 use Rattle.regex_lite_engine.proofs.Common.{◌≡◌, ℕ, ◌+◌, ◌^◌, ◌<◌, ◌≤◌, Bool, false, List, [], ◌∷◌}
 use Rattle.regex_lite_engine.proofs.Common.{◌++◌, length, drop, if◌then◌else◌, Some, sym, refl, ap}
-use Rattle.regex_lite_engine.proofs.Common.{◌∙◌, subst, arith, kept_back, kept_back_of, all_retold}
-use Rattle.regex_lite_engine.proofs.Common.{state_retold, KeepsPosition, Thread, StepsAt, WayTold}
-use Rattle.regex_lite_engine.proofs.Common.{ThreadsHold, InStep, SearchAt, Told, untold, Best, Node}
-use Rattle.regex_lite_engine.proofs.Common.{Offer, Here}
-use Rattle.regex_lite_engine.specs.Pikevm.Again.{AreAlike, retold}
-use Rattle.regex_lite_engine.specs.Pikevm.Turns.{Between, StepsTo}
+use Rattle.regex_lite_engine.proofs.Common.{◌∙◌, subst, arith, stack_bound, stack_bound_of}
+use Rattle.regex_lite_engine.proofs.Common.{all_relabelled, state_relabelled, KeepsPosition, Thread}
+use Rattle.regex_lite_engine.proofs.Common.{StepsAt, WayReported, ThreadsHold, InStep, SearchAt}
+use Rattle.regex_lite_engine.proofs.Common.{Reported, no_start, Best, Node, PendingNode, Here}
+use Rattle.regex_lite_engine.specs.Pikevm.Again.{AreAlike, relabelled}
+use Rattle.regex_lite_engine.specs.Pikevm.Stepping.{Between, StepsTo}
 use Rattle.regex_lite_engine.specs.declared.pikevm.walk.Walk.{Walk}
 use Rattle.regex_lite_engine.specs.Graph.Places.{Place}
 use Rattle.regex_lite_engine.specs.Pikevm.Machine.{explore, State}
-use Rattle.regex_lite_engine.specs.Pikevm.Room.{with_frames, HasRoom, Explores, IsFit, GoesOn}
-use Rattle.regex_lite_engine.specs.Pikevm.Room.{WalksAt, due_tries, due_entries, explores}
+use Rattle.regex_lite_engine.specs.Pikevm.Capacity.{with_frames, HasCapacity, Explores, IsFit}
+use Rattle.regex_lite_engine.specs.Pikevm.Capacity.{GoesOn, WalksAt, due_tries, due_entries}
+use Rattle.regex_lite_engine.specs.Pikevm.Capacity.{explores}
 use Rattle.regex_lite_engine.specs.Pikevm.Walking.{IsWalking}
-use Rattle.regex_lite_engine.proofs.pikevm.RoomLemmas.{left_most}
+use Rattle.regex_lite_engine.proofs.pikevm.CapacityLemmas.{left_most}
 use Rattle.regex_lite_engine.proofs.pikevm.StateLemmas.{takes_up}
 use Rattle.regex_lite_engine.proofs.pikevm.WalkLemmas.{walk_framed}
 use Rattle.regex_lite_engine.proofs.pikevm.WentLemmas.{walk_is}
@@ -30,12 +31,12 @@ thread_taken : (table : List (Place ℕ)) (at : SearchAt) (m : State) (thread : 
 thread_taken table at m thread ways best u =
     go u.later u.ways_hold (subst (λ z. In_step (z ++ u.later)) u.frames_hold u.in_step)
   where
-    In_step : List (Offer Node) → Type 0
+    In_step : List (PendingNode Node) → Type 0
     In_step now =
         InStep table at.haystack at.entries at.whole at.first at.last at.p at.from u.recorded now
         u.coming u.way
 
-    go : (later : List (Offer Node))
+    go : (later : List (PendingNode Node))
         → ThreadsHold table at.haystack at.entries at.p (thread ∷ ways) later → In_step later
         → IsWalking table at (taking_up m thread) thread.1 ways best
     go [] held in_step = absurd held
@@ -52,7 +53,7 @@ thread_taken table at m thread ways best u =
         o.1,
         [],
         ap (λ z. (z, o.1) ∷ []) there,
-        subst (λ z. WayTold table at.haystack at.entries thread.1 thread.2 z o.1) there holds,
+        subst (λ z. WayReported table at.haystack at.entries thread.1 thread.2 z o.1) there holds,
         refl,
       );
       ways_hold = more;
@@ -69,7 +70,7 @@ pub stepped : (table : List (Place ℕ)) (at : SearchAt) (here : Here) (m m' : S
 stepped table at here m m' thread ways b done walks = λ is u.
     let over = walks is ways b (thread_taken table at m thread ways b u) in
     walk_framed table at (record m' { frames = [] }) thread.1 (if done then [] else ways)
-    (if done then Some (thread.1, here.at, m'.row) else b) over untold [] [] over.frames_hold
+    (if done then Some (thread.1, here.at, m'.row) else b) over no_start [] [] over.frames_hold
 
 -- a thread was taken up: x is w but for the frames and the row
 module _ (table : List (Place ℕ)) {S : Type 0} (w x : Walk S) (q : ℕ)
@@ -83,11 +84,11 @@ module _ (table : List (Place ℕ)) {S : Type 0} (w x : Walk S) (q : ℕ)
   is_taken : with_frames x (explore q ∷ x.memory.frames) ≡ taken
   is_taken = ap (λ (z : Walk S). with_frames z (explore q ∷ z.memory.frames)) (walk_is x em ec)
 
-  pub room_pushed : q < length table → kept_back_of table < length table
-      → due_tries table w + 1 < 2 ^ 127 → HasRoom table w []
-      → HasRoom table x (explore q ∷ x.memory.frames)
+  pub room_pushed : q < length table → stack_bound_of table < length table
+      → due_tries table w + 1 < 2 ^ 127 → HasCapacity table w []
+      → HasCapacity table x (explore q ∷ x.memory.frames)
   room_pushed inside kept few fit =
-      let most = left_most kept_back w.memory.entered table in
+      let most = left_most stack_bound w.memory.entered table in
       subst (λ (z : Walk S). IsFit table z) (sym is_taken) (record {
         all_seen = fit.all_seen;
         frames_below = (inside, tt);
@@ -102,7 +103,7 @@ module _ (table : List (Place ℕ)) {S : Type 0} (w x : Walk S) (q : ℕ)
       })
 
   -- its ways were followed
-  pub goes_up : (whole : Bool) (here : Here) (i : Told) (y : Walk S) (done : Bool)
+  pub goes_up : (whole : Bool) (here : Here) (i : Reported) (y : Walk S) (done : Bool)
       → Explores table whole here i x y (explore q ∷ x.memory.frames) done
       → GoesOn table whole here i taken (with_frames y []) done
   goes_up whole here i y done explored =
@@ -111,15 +112,15 @@ module _ (table : List (Place ℕ)) {S : Type 0} (w x : Walk S) (q : ℕ)
 -- The first k of the ways were followed, up to a complete match of the last of them, which began
 -- at `start`, where one is done
 pub record HasFollowed {S : Type 0} (table : List (Place ℕ)) (whole : Bool) (here : Here)
-    (ways : List Thread) (best : Best) (first : Walk S) (start : Told) (walk : Walk S) (k : ℕ)
+    (ways : List Thread) (best : Best) (first : Walk S) (start : Reported) (walk : Walk S) (k : ℕ)
     (done : Bool) : Type 0 where
   pub steps :
       StepsTo table whole here first.memory ways best walk.memory (if done then [] else drop k ways)
       (if done then Some (start, here.at, walk.memory.row) else best)
-  pub again : whole ≡ false → (tell : Told → Told) (there : Here) (b : Best) (at : SearchAt)
+  pub again : whole ≡ false → (tell : Reported → Reported) (there : Here) (b : Best) (at : SearchAt)
       → at.whole ≡ false → AreAlike table at.entries here there
-      → StepsAt table at there (state_retold tell first.memory) (all_retold tell ways) b
-      (state_retold tell walk.memory) (if done then [] else all_retold tell (drop k ways))
+      → StepsAt table at there (state_relabelled tell first.memory) (all_relabelled tell ways) b
+      (state_relabelled tell walk.memory) (if done then [] else all_relabelled tell (drop k ways))
       (if done then Some (tell start, there.at, []) else b)
   pub kept : KeepsPosition first.memory walk.memory
   pub spent : due_tries table walk ≤ due_tries table first + k
@@ -129,7 +130,7 @@ pub record HasFollowed {S : Type 0} (table : List (Place ℕ)) (whole : Bool) (h
 -- the next of them is taken up and followed too
 pub follows_on : {S : Type 0} {table : List (Place ℕ)} {whole : Bool} {here : Here}
     {ways : List Thread}
-    {best : Best} {first w x y : Walk S} {before start : Told} {k q : ℕ} {done : Bool}
+    {best : Best} {first w x y : Walk S} {before start : Reported} {k q : ℕ} {done : Bool}
     → HasFollowed table whole here ways best first before w k false
     → drop k ways ≡ (q, start, x.memory.row) ∷ drop (k + 1) ways
     → x.memory ≡ record w.memory { row = x.memory.row }
@@ -150,11 +151,11 @@ follows_on {table = table} {whole} {here} {ways} {best} {w = w} {x} {y} {start =
           (subst (λ (ts : List Thread). Between table at w.memory ts best) next
           (v.steps at same is u));
       again = λ all tell there b at same alike is u.
-          stepped table at there (state_retold tell w.memory) (state_retold tell y.memory)
-          (retold tell thread) (all_retold tell left) b done (on.again all tell there at same alike)
-          is
-          (subst (λ (ts : List Thread). Between table at (state_retold tell w.memory)
-          (all_retold tell ts) b) next (v.again all tell there b at same alike is u));
+          stepped table at there (state_relabelled tell w.memory) (state_relabelled tell y.memory)
+          (relabelled tell thread) (all_relabelled tell left) b done
+          (on.again all tell there at same alike) is
+          (subst (λ (ts : List Thread). Between table at (state_relabelled tell w.memory)
+          (all_relabelled tell ts) b) next (v.again all tell there b at same alike is u));
       kept = record {
         threads = kept.threads ∙ ap (λ (m : State). m.threads) em ∙ v.kept.threads;
         room = kept.room ∙ ap (λ (m : State). m.room) em ∙ v.kept.room;

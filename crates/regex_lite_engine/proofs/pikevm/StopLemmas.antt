@@ -7,7 +7,7 @@ use Rattle.regex_lite_engine.specs.declared.pikevm.cache.Cache.{Cache}
 use Rattle.regex_lite_engine.specs.Graph.Places.{Place}
 use Rattle.regex_lite_engine.specs.Pikevm.Passing.{IsUnderWay, Passes}
 use Rattle.regex_lite_engine.specs.Pikevm.Stopping.{IsDone, Stops, StopsBefore}
-use Rattle.regex_lite_engine.specs.Pikevm.Turns.{EndsAt}
+use Rattle.regex_lite_engine.specs.Pikevm.Stepping.{EndsAt}
 use Rattle.regex_lite_engine.specs.Search.NumberedOutcomes.{IsFoundOf}
 use Rattle.regex_lite_engine.proofs.pikevm.EndLemmas.{ended_all}
 use Rattle.regex_lite_engine.proofs.pikevm.PassLemmas.{bounded, bounded_within}

@@ -3,11 +3,11 @@ use Rattle.regex_lite_engine.proofs.Common.{◌≡◌, ℕ, suc, ◌<◌, ◌⊎
 use Rattle.regex_lite_engine.proofs.Common.{IsTrue, slice_set, Some, None, Option, sym, refl, ap}
 use Rattle.regex_lite_engine.proofs.Common.{◌∙◌, subst, inl, inr, append_assoc, cases_eq}
 use Rattle.regex_lite_engine.proofs.Common.{get_or-set_other, get_or-set_same, Text, Thread}
-use Rattle.regex_lite_engine.proofs.Common.{WayTold, ThreadsHold, InStep, SearchAt, Told, Marks}
-use Rattle.regex_lite_engine.proofs.Common.{marked, over, mark_of, marks_along, place_with}
+use Rattle.regex_lite_engine.proofs.Common.{WayReported, ThreadsHold, InStep, SearchAt, Reported}
+use Rattle.regex_lite_engine.proofs.Common.{Marks, marked, over, mark_of, marks_along, place_with}
 use Rattle.regex_lite_engine.proofs.Common.{numbered_step, is_wanted_end, StartsOf, Best, Node}
-use Rattle.regex_lite_engine.proofs.Common.{Offer}
-use Rattle.regex_lite_engine.proofs.Common.{offset, HasSlots, Row, false, slice_index_or, true}
+use Rattle.regex_lite_engine.proofs.Common.{PendingNode, offset, HasSlots, Row, false}
+use Rattle.regex_lite_engine.proofs.Common.{slice_index_or, true}
 use Rattle.regex_lite_engine.specs.Graph.Places.{Place}
 use Rattle.regex_lite_engine.specs.Pikevm.Machine.{Job, explore, State}
 use Rattle.regex_lite_engine.specs.Pikevm.Walking.{FramesHold, IsWalking}
@@ -15,18 +15,18 @@ use Rattle.regex_lite_engine.proofs.laws.LeadsLemmas.{leads_append}
 use Rattle.regex_lite_engine.proofs.pikevm.InStepLemmas as deep
 use Rattle.regex_lite_engine.proofs.pikevm.InStepMatchLemmas.{in_step_complete, in_step_passed}
 use Rattle.regex_lite_engine.proofs.search.MarkLemmas.{marks_append, same_slots}
-use Rattle.regex_lite_engine.proofs.search.PlaceLemmas.{wide, no_more, no_arrow_at, offered_by}
-use Rattle.regex_lite_engine.proofs.search.PlaceLemmas.{offers_listed}
+use Rattle.regex_lite_engine.proofs.search.PlaceLemmas.{wide, no_more, no_arrow_at, is_pending_by}
+use Rattle.regex_lite_engine.proofs.search.PlaceLemmas.{pending_listed}
 use Rattle.regex_lite_engine.proofs.search.RecordLemmas as records
 use Rattle.regex_lite_engine.proofs.search.RecordLemmas.{same_node, none_or}
 use Rattle.regex_lite_engine.proofs.search.WantedLemmas.{complete_there}
 
 module _ (table : List (Place ℕ)) (haystack : Text) (s : List ℕ) where
-  pub holds_on : (i : Told) (row row' : Row) (n : Node) (w : List ℕ) (a : ℕ) (l : Node)
-      → WayTold table haystack s i row n w → numbered_step table haystack n a ≡ Some l →
+  pub holds_on : (i : Reported) (row row' : Row) (n : Node) (w : List ℕ) (a : ℕ) (l : Node)
+      → WayReported table haystack s i row n w → numbered_step table haystack n a ≡ Some l →
       ((ms : Marks) → HasSlots haystack row ms
       → HasSlots haystack row' (over (marked (mark_of (place_with table n.0) a) n.1) ms))
-      → WayTold table haystack s i row' l (w ++ a ∷ [])
+      → WayReported table haystack s i row' l (w ++ a ∷ [])
   holds_on i row row' n w a l (j, number, x, ks, eb, is, e, path, has) hops f = (
     j,
     number,
@@ -47,7 +47,7 @@ module _ (table : List (Place ℕ)) (haystack : Text) (s : List ℕ) where
       marks = marks_along haystack (place_with table)
 
   -- threads after others hold their offers after those of the others
-  pub held_append : (p : ℕ) (ts us : List Thread) (os ps : List (Offer Node))
+  pub held_append : (p : ℕ) (ts us : List Thread) (os ps : List (PendingNode Node))
       → ThreadsHold table haystack s p ts os → ThreadsHold table haystack s p us ps
       → ThreadsHold table haystack s p (ts ++ us) (os ++ ps)
   held_append p [] us [] ps a b = b
@@ -57,7 +57,8 @@ module _ (table : List (Place ℕ)) (haystack : Text) (s : List ℕ) where
       (at, holds, held_append p ts us os ps rest b)
 
   -- without threads there are no offers
-  pub none_held : (p : ℕ) (os : List (Offer Node)) → ThreadsHold table haystack s p [] os → os ≡ []
+  pub none_held : (p : ℕ) (os : List (PendingNode Node)) → ThreadsHold table haystack s p [] os → os
+      ≡ []
   none_held p [] a = refl
   none_held p (o ∷ os) a = absurd a
 
@@ -65,14 +66,14 @@ module _ (table : List (Place ℕ)) (haystack : Text) (s : List ℕ) where
 abbrev pub marked_in : State → (q : ℕ) → State
 marked_in state q = record state { entered = slice_set state.entered q true }
 
-module _ (table : List (Place ℕ)) (at : SearchAt) (state : State) (i : Told) (ways : List Thread)
-    (best : Best) where
+module _ (table : List (Place ℕ)) (at : SearchAt) (state : State) (i : Reported)
+    (ways : List Thread) (best : Best) where
   open at use {haystack, entries as s, whole, first, last, p, from}
 
   abbrev Walks : Row → List Job → Type 0
   Walks row frames = IsWalking table at (record state { row = row; frames = frames }) i ways best
 
-  abbrev In_step : (Node → Option (List ℕ)) → List (Offer Node) → List (Offer Node)
+  abbrev In_step : (Node → Option (List ℕ)) → List (PendingNode Node) → List (PendingNode Node)
       → Option (List ℕ) → Type 0
   In_step = InStep table haystack s whole first last p from
 
@@ -83,7 +84,7 @@ module _ (table : List (Place ℕ)) (at : SearchAt) (state : State) (i : Told) (
   width = wide table haystack
 
   -- what is left may be seen as other frames that hold the same offers
-  pub walk_framed : (walking : IsWalking table at state i ways best) (j : Told) (row : Row)
+  pub walk_framed : (walking : IsWalking table at state i ways best) (j : Reported) (row : Row)
       (frames : List Job) → FramesHold table haystack s p j row frames walking.under
       → IsWalking table at (record state { row = row; frames = frames }) j ways best
   walk_framed walking j row frames hold = record {
@@ -105,12 +106,12 @@ module _ (table : List (Place ℕ)) (at : SearchAt) (state : State) (i : Told) (
       (walking : Walks state.row (explore q ∷ state.frames)) where
     abbrev Took : Type 0
     Took =
-        (w : List ℕ) × (rest : List (Offer Node)) × (walking.under ≡ ((q, p), w) ∷ rest)
-        × WayTold table haystack s i state.row (q, p) w
+        (w : List ℕ) × (rest : List (PendingNode Node)) × (walking.under ≡ ((q, p), w) ∷ rest)
+        × WayReported table haystack s i state.row (q, p) w
         × FramesHold table haystack s p i state.row state.frames rest
 
     -- the offer on top comes first of what is left
-    taken : (w : List ℕ) (rest : List (Offer Node)) → walking.under ≡ ((q, p), w) ∷ rest
+    taken : (w : List ℕ) (rest : List (PendingNode Node)) → walking.under ≡ ((q, p), w) ∷ rest
         → In_step walking.recorded (((q, p), w) ∷ (rest ++ walking.later)) walking.coming
         walking.way
     taken w rest e =
@@ -181,15 +182,15 @@ module _ (table : List (Place ℕ)) (at : SearchAt) (state : State) (i : Told) (
               (r'.0, records.kept Node same_node walking.recorded (q, p) w fresh (r, p) r'.0 r'.1)
 
       -- what the place offers to the way
-      abbrev pub listed : List ℕ → List (Offer Node)
-      listed w = offered_by table haystack (place_with table q) p w (width (q, p)) 0
+      abbrev pub listed : List ℕ → List (PendingNode Node)
+      listed w = is_pending_by table haystack (place_with table q) p w (width (q, p)) 0
 
       -- all its arrows stay at the position
       pub walk_entered : (row : Row) (frames : List Job)
           → (IsTrue (is_wanted_end table haystack whole (q, p)) → ⊥)
           → ((a : ℕ) (l : Node) → step (q, p) a ≡ Some l → l.1 ≡ p)
-          → ((w : List ℕ) (rest : List (Offer Node)) → WayTold table haystack s i state.row (q, p) w
-          → FramesHold table haystack s p i state.row state.frames rest
+          → ((w : List ℕ) (rest : List (PendingNode Node)) → WayReported table haystack s i
+          state.row (q, p) w → FramesHold table haystack s p i state.row state.frames rest
           → FramesHold table haystack s p i row frames (listed w ++ rest))
           → IsWalking table at (record (marked_in state q) { row = row; frames = frames }) i
           ways best
@@ -209,7 +210,7 @@ module _ (table : List (Place ℕ)) (at : SearchAt) (state : State) (i : Told) (
                 (sym (append_assoc (listed w) rest walking.later))
                 (subst (λ z. In_step (recorded_now w) (z ++ (rest ++ walking.later)) walking.coming
                 walking.way)
-                (offers_listed table haystack q p w (width (q, p)) 0)
+                (pending_listed table haystack q p w (width (q, p)) 0)
                 (deep.in_step_free Node step same_node width (no_more table haystack)
                 (StartsOf s first last) (is_wanted_end table haystack whole) (λ x. x.1) fresh
                 (taken w rest e)
@@ -226,8 +227,8 @@ module _ (table : List (Place ℕ)) (at : SearchAt) (state : State) (i : Told) (
       pub walk_read : (next : List Thread) → (IsTrue (is_wanted_end table haystack whole (q, p))
           → ⊥)
           → ((a : ℕ) (l : Node) → step (q, p) a ≡ Some l → l.1 ≡ suc p)
-          → ((w : List ℕ) (coming : List (Offer Node))
-          → WayTold table haystack s i state.row (q, p) w
+          → ((w : List ℕ) (coming : List (PendingNode Node))
+          → WayReported table haystack s i state.row (q, p) w
           → ThreadsHold table haystack s (suc p) state.next coming
           → ThreadsHold table haystack s (suc p) next (coming ++ listed w))
           → IsWalking table at (record (marked_in state q) { next = next }) i ways best
@@ -243,7 +244,7 @@ module _ (table : List (Place ℕ)) (at : SearchAt) (state : State) (i : Told) (
             in_step =
                 subst (λ z. In_step (recorded_now w) (rest ++ walking.later)
                 (walking.coming ++ z) walking.way)
-                (offers_listed table haystack q p w (width (q, p)) 0)
+                (pending_listed table haystack q p w (width (q, p)) 0)
                 (deep.in_step_read Node step same_node width (no_more table haystack)
                 (StartsOf s first last) (is_wanted_end table haystack whole) (λ x. x.1) fresh
                 (taken w rest e)

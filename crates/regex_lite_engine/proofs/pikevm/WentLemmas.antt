@@ -3,24 +3,24 @@ use Rattle.std.proofs.lemmas.Bool.{false≢true}
 use Rattle.regex_lite_engine.proofs.Common.{◌≡◌, ℕ, ◌+◌, ◌<◌, ◌≤◌, Bool, true, false, List, [], ◌∷◌}
 use Rattle.regex_lite_engine.proofs.Common.{length, set, if◌then◌else◌, slice_get, slice_set, Some}
 use Rattle.regex_lite_engine.proofs.Common.{Option, unwrap_or, sym, refl, ap, ◌∙◌, with_arrows}
-use Rattle.regex_lite_engine.proofs.Common.{reading_count, kept_back, arrow_count, place_of}
-use Rattle.regex_lite_engine.proofs.Common.{LeadsBelow, state_retold, Told, StepCounts, lone, Row}
-use Rattle.regex_lite_engine.proofs.Common.{Here, slice_index_or, subst, arith, length-set}
-use Rattle.regex_lite_engine.proofs.Common.{set-get_or}
+use Rattle.regex_lite_engine.proofs.Common.{reading_count, stack_bound, arrow_count, place_of}
+use Rattle.regex_lite_engine.proofs.Common.{LeadsBelow, state_relabelled, Reported, StepCounts}
+use Rattle.regex_lite_engine.proofs.Common.{lone, Row, Here, slice_index_or, subst, arith}
+use Rattle.regex_lite_engine.proofs.Common.{length-set, set-get_or}
 use Rattle.regex_lite_engine.specs.declared.nfa.place.Place as code
 use Rattle.regex_lite_engine.specs.declared.pikevm.enter.Onward.{Onward}
 use Rattle.regex_lite_engine.specs.declared.pikevm.enter.Onward.TheVariants as onward
 use Rattle.regex_lite_engine.specs.declared.pikevm.walk.Walk.{Walk}
 use Rattle.regex_lite_engine.specs.Graph.Places.{Place}
 use Rattle.regex_lite_engine.specs.Pikevm.Entering.{completes, Enters}
-use Rattle.regex_lite_engine.specs.Pikevm.Machine.{Job, explore, restore, State, unwound}
-use Rattle.regex_lite_engine.specs.Pikevm.Room.{explores, work, FramesBelow, IsFit, GoesOn, Went}
-use Rattle.regex_lite_engine.specs.Pikevm.Room.{HasRoom, with_frames}
+use Rattle.regex_lite_engine.specs.Pikevm.Machine.{Job, explore, restore, State, restored}
+use Rattle.regex_lite_engine.specs.Pikevm.Capacity.{explores, work, FramesBelow, IsFit, GoesOn}
+use Rattle.regex_lite_engine.specs.Pikevm.Capacity.{Went, HasCapacity, with_frames}
 use Rattle.regex_lite_engine.specs.Search.Counting.{weight}
 use Rattle.regex_lite_engine.proofs.pikevm.AgainLemmas.{entered_again}
 use Rattle.regex_lite_engine.proofs.pikevm.EnterLemmas.{walk_enters}
 use Rattle.regex_lite_engine.proofs.pikevm.WalkLemmas.{marked_in, walk_framed, walk_seen}
-use Rattle.regex_lite_engine.proofs.pikevm.RoomLemmas.{left_enter, enters_adds}
+use Rattle.regex_lite_engine.proofs.pikevm.CapacityLemmas.{left_enter, enters_adds}
 
 -- a walk with this memory and these counts
 pub walk_is : {S : Type 0} (w : Walk S) {m : State} {c : StepCounts} → w.memory ≡ m → w.steps ≡ c
@@ -29,9 +29,9 @@ walk_is w {m = m} em ec =
     ap (λ (z : State). record w { memory = z }) em
     ∙ ap (λ (z : StepCounts). record w { memory = m; steps = z }) ec
 
-module _ (table : List (Place ℕ)) (whole : Bool) (here : Here) (i : Told) {S : Type 0} where
+module _ (table : List (Place ℕ)) (whole : Bool) (here : Here) (i : Reported) {S : Type 0} where
   -- the place was entered before
-  pub went_seen : (w x : Walk S) (q : ℕ) → HasRoom table w (explore q ∷ w.memory.frames)
+  pub went_seen : (w x : Walk S) (q : ℕ) → HasCapacity table w (explore q ∷ w.memory.frames)
       → slice_index_or w.memory.entered q false ≡ true
       → x.memory ≡ record w.memory { entered = slice_set w.memory.entered q true }
       → x.steps ≡ record w.steps { tried = w.steps.tried + 1 }
@@ -60,8 +60,8 @@ module _ (table : List (Place ℕ)) (whole : Bool) (here : Here) (i : Told) {S :
           walks = λ at same is ways best u.
               walk_seen table at m i ways best q (omega (arith, all, lt)) u was;
           again = λ every tell there at same alike is ways best u.
-              walk_seen table at (state_retold tell m) (tell i) ways best q (omega (arith, all, lt))
-              u was;
+              walk_seen table at (state_relabelled tell m) (tell i) ways best q
+              (omega (arith, all, lt)) u was;
           spent = omega arith;
           spent_entries = omega arith;
         };
@@ -72,7 +72,7 @@ module _ (table : List (Place ℕ)) (whole : Bool) (here : Here) (i : Told) {S :
   -- a new place is entered; at a match what is left is dropped
   module _ (w : Walk S) (q : ℕ) (x : code.Place) (e : State) (done : Bool)
       (inside : LeadsBelow (length table) (place_of x))
-      (fit : HasRoom table w (explore q ∷ w.memory.frames))
+      (fit : HasCapacity table w (explore q ∷ w.memory.frames))
       (new : slice_index_or w.memory.entered q false ≡ true → ⊥)
       (at : slice_get table q ≡ Some (place_of x))
       (enters : Enters whole here i x (marked_in w.memory q) e done)
@@ -117,7 +117,7 @@ module _ (table : List (Place ℕ)) (whole : Bool) (here : Here) (i : Told) {S :
         fit.threads_below e' done x inside enters' in
         let few = adds.few in let long = adds.long in let keeps = adds.keeps in
         let work_left = left_enter weight m.entered table q (place_of x) at short new in
-        let stack_left = left_enter kept_back m.entered table q (place_of x) at short new in
+        let stack_left = left_enter stack_bound m.entered table q (place_of x) at short new in
         let arrows_left = left_enter arrow_count m.entered table q (place_of x) at short new in
         let lone_left = left_enter lone m.entered table q (place_of x) at short new in
         let reading_left =
@@ -191,7 +191,7 @@ module _ (table : List (Place ℕ)) (whole : Bool) (here : Here) (i : Told) {S :
     pub less : work table x.memory ≤ work table w.memory
 
   went_restored : (w : Walk S) (slot : ℕ) (old : Option ℕ) (fs : List Job)
-      → HasRoom table w (restore slot old ∷ fs)
+      → HasCapacity table w (restore slot old ∷ fs)
       → IsBack (with_frames w (restore slot old ∷ fs))
       (back_at w (slice_set w.memory.row slot old, fs))
   went_restored w slot old fs fit =
@@ -217,8 +217,8 @@ module _ (table : List (Place ℕ)) (whole : Bool) (here : Here) (i : Told) {S :
               (slice_set m.row slot old) fs u.frames_hold;
           again = λ every tell there at same alike is ways best u.
               walk_framed table at
-              (state_retold tell (record m { frames = restore slot old ∷ fs })) (tell i) ways best u
-              (tell i) [] fs u.frames_hold;
+              (state_relabelled tell (record m { frames = restore slot old ∷ fs })) (tell i) ways
+              best u (tell i) [] fs u.frames_hold;
           spent = omega arith;
           spent_entries = omega arith;
         };
@@ -228,8 +228,8 @@ module _ (table : List (Place ℕ)) (whole : Bool) (here : Here) (i : Told) {S :
   stays_back : (w : Walk S) → IsFit table w → IsBack w w
   stays_back w fit = record { fit = fit; on = goes_nowhere w; less = omega arith }
 
-  went_back : (w : Walk S) (fs : List Job) → HasRoom table w fs
-      → IsBack (with_frames w fs) (back_at w (unwound w.memory.row fs))
+  went_back : (w : Walk S) (fs : List Job) → HasCapacity table w fs
+      → IsBack (with_frames w fs) (back_at w (restored w.memory.row fs))
   went_back w [] fit = stays_back (with_frames w []) fit
   went_back w (explore q ∷ fs) fit = stays_back (with_frames w (explore q ∷ fs)) fit
   went_back w (restore slot old ∷ fs) fit =
@@ -240,13 +240,13 @@ module _ (table : List (Place ℕ)) (whole : Bool) (here : Here) (i : Told) {S :
       record {
         fit = more.fit;
         on = goes_further (with_frames w (restore slot old ∷ fs)) (back_at w (row, fs))
-            (back_at w (unwound row fs)) false one.on more.on;
+            (back_at w (restored row fs)) false one.on more.on;
         less = omega (arith, less, more_less);
       }
 
   -- this is left then
   pub back_to : (w x : Walk S) (left : List Job)
-      → unwound w.memory.row w.memory.frames ≡ (x.memory.row, left)
+      → restored w.memory.row w.memory.frames ≡ (x.memory.row, left)
       → x.memory ≡ record w.memory { row = x.memory.row; frames = x.memory.frames }
       → x.steps ≡ w.steps → IsFit table w → IsBack w (with_frames x left)
   back_to w x left is em ec fit =

@@ -10,9 +10,8 @@ use Rattle.regex_lite_engine.specs.Graph.Stored.{StoredGraph}
 use Rattle.regex_lite_engine.specs.Search.AnswerAt.{HasMatchAt, IsAnswerAt}
 use Rattle.regex_lite_engine.specs.Search.NumberedAnswer.{IsWantedFound, IsWantedMatch}
 use Rattle.regex_lite_engine.specs.Search.NumberedList.{IsWantedAnswerTo}
-use Rattle.regex_lite_engine.specs.Search.NumberedOutcomes.{IsAnyTo, IsWantedOutcomeTo}
-use Rattle.regex_lite_engine.specs.Search.NumberedOutcomes.{best_at, match_told}
-use Rattle.regex_lite_engine.specs.Search.NumberedOutcomes.{with_start_kept}
+use Rattle.regex_lite_engine.specs.Search.NumberedOutcomes.{IsAnyTo, IsWantedOutcomeTo, best_at}
+use Rattle.regex_lite_engine.specs.Search.NumberedOutcomes.{match_reported, with_start_kept}
 use Rattle.regex_lite_engine.specs.Search.Outcomes.{IsOutcomeAt, IsSpanOutcomeAt}
 use Rattle.regex_lite_engine.specs.declared.search.outcome.Outcome.{Outcome}
 use Rattle.regex_lite_engine.proofs.laws.search.NumberedAnswerLemmas.{found_at_of_part}
@@ -64,34 +63,34 @@ module _ (whole : Bool) (tree : Tree) (regular : IsRegular tree) (graph : Stored
       (subst (λ z. IsWantedFound (table_of graph) text whole z s found)
       (sym (only_entry graph.start number answer.entry answer.is_entry).1) answer.answer)
 
-  pub span_at_told : (span : Option (ℕ × ℕ)) (slots : List (Option ℕ))
+  pub span_at_reported : (span : Option (ℕ × ℕ)) (slots : List (Option ℕ))
       → IsWantedOutcomeTo (table_of graph) text entries whole s s
       (with_start_kept (best_at span slots))
       → IsSpanOutcomeAt whole tree haystack start slots span
-  span_at_told None slots none =
+  span_at_reported None slots none =
       at_position (λ z. IsAnswerAt whole tree text z None) (λ here. none_at none here)
-  span_at_told (Some span) slots (number, found, answer, tells, to, held) = (
+  span_at_reported (Some span) slots (number, found, answer, tells, to, held) = (
     found,
     at_position (λ z. IsAnswerAt whole tree text z (Some found)) (found_here found number answer),
-    record { start = tells.start_told; end = to; slots = held },
+    record { start = tells.start_reported; end = to; slots = held },
   )
 
-  pub outcome_at_told : (outcome : Option Outcome)
+  pub outcome_at_reported : (outcome : Option Outcome)
       → IsWantedOutcomeTo (table_of graph) text entries whole s s
-      (with_start_kept (match_told outcome))
+      (with_start_kept (match_reported outcome))
       → IsOutcomeAt whole tree haystack start outcome
-  outcome_at_told None none = span_at_told None [] none
-  outcome_at_told (Some outcome) some =
-      span_at_told (Some (outcome.start, outcome.end)) outcome.slots.items some
+  outcome_at_reported None none = span_at_reported None [] none
+  outcome_at_reported (Some outcome) some =
+      span_at_reported (Some (outcome.start, outcome.end)) outcome.slots.items some
 
-  pub any_at_told : (best : Best) → IsAnyTo (table_of graph) text entries whole s s best
+  pub any_at_reported : (best : Best) → IsAnyTo (table_of graph) text entries whole s s best
       → IsTrue (is_some best) ↔ HasMatchAt whole tree text (search_start haystack start)
-  any_at_told None none = (
+  any_at_reported None none = (
     λ found. cc,
     λ here. absurd (none_at none (subst (HasMatchAt whole tree text)
         (start_inside haystack start inside) here)),
   )
-  any_at_told (Some best) (i, k, way, q, j, up_to, m) =
+  any_at_reported (Some best) (i, k, way, q, j, up_to, m) =
       (λ found. at_position (HasMatchAt whole tree text) there, λ here. refl)
     where
       there : HasMatchAt whole tree text s

@@ -6,9 +6,9 @@ use Rattle.regex_lite_engine.proofs.Common.{slice_index_or, Some, None, IsUtf8, 
 use Rattle.regex_lite_engine.proofs.Common.{chars, IsCharBoundary, sym, refl, ap, ◌∙◌, subst, inl}
 use Rattle.regex_lite_engine.proofs.Common.{inr, arith, length-drop, cases_lt, nat_tests, take_all}
 use Rattle.regex_lite_engine.proofs.Common.{slice_get_within, encodes-chars, len_utf8, Text, after}
-use Rattle.regex_lite_engine.proofs.Common.{stops_at, MayBegin, offset, IsHere, Starts, Here}
+use Rattle.regex_lite_engine.proofs.Common.{stops_at, MayBegin, offset, IsHere, FirstSet, Here}
 use Rattle.std.proofs.Common.{◌||◌, is_none}
-use Rattle.regex_lite_syntax.specs.Prefilter.Starts.{begins_with, may_begin}
+use Rattle.regex_lite_syntax.specs.Prefilter.FirstSet.{begins_with, may_begin}
 use lib.Utf8.{encode, encodes}
 use Rattle.std.proofs.lemmas.Str.{char_from_byte, byte_from_char}
 use Rattle.regex_lite_syntax.proofs.LookupLemmas.{there_is}
@@ -35,8 +35,8 @@ rest_of bs i c u e =
     ∙ ap encodes (first_of i (chars bs) c e)
 
 -- a match can begin with a character if the scan stops at its first byte
-pub first_byte : (s : Starts) (bs : List ℕ) (i c : ℕ) → IsUtf8 bs → slice_get (chars bs) i ≡ Some c
-    → i < length (chars bs) → offset (chars bs) i < length bs
+pub first_byte : (s : FirstSet) (bs : List ℕ) (i c : ℕ) → IsUtf8 bs → slice_get (chars bs) i ≡ Some
+    c → i < length (chars bs) → offset (chars bs) i < length bs
     → begins_with s c ≡ stops_at s (slice_index bs (offset (chars bs) i))
 first_byte s bs i c u e within short = by_byte (cases_lt byte 128)
   where
@@ -104,7 +104,7 @@ ascii_there bs i u within short ascii =
     own.1 ∙ ap Some (same ∙ head)
 
 -- where the scan stops, or at the end, one can begin
-pub stopped : (s : Starts) (bs : List ℕ) (q : ℕ) (y : Here) → IsUtf8 bs → IsHere (chars bs) q y
+pub stopped : (s : FirstSet) (bs : List ℕ) (q : ℕ) (y : Here) → IsUtf8 bs → IsHere (chars bs) q y
     → (y.at < length bs → stops_at s (slice_index bs y.at) ≡ true)
     → may_begin s y.before y.after ≡ true
 stopped s bs q y u is stops = by_next y.after refl
@@ -126,7 +126,7 @@ stopped s bs q y u is stops = by_next y.after refl
     by_next (Some c) e = ap (λ z. z || (s.at_start && is_none y.before)) (ahead c e)
 
 -- none begins where that is known
-pub never_at : (s : Starts) (h : Text) (p : ℕ) (x : Here) → IsHere h p x
+pub never_at : (s : FirstSet) (h : Text) (p : ℕ) (x : Here) → IsHere h p x
     → may_begin s x.before x.after ≡ false → MayBegin s h p → ⊥
 never_at s h p x is off may =
     let by_last = subst (λ o. IsTrue (may_begin s o (after h p))) (sym is.behind) may in
@@ -134,7 +134,7 @@ never_at s h p x is off may =
     let never = subst IsTrue off by_next in cc
 
 -- after the haystack's start a match begins with a character of the set
-pub begins_later : (s : Starts) (h : Text) (i : ℕ) → (d : ℕ) × (slice_get h i ≡ Some d)
+pub begins_later : (s : FirstSet) (h : Text) (i : ℕ) → (d : ℕ) × (slice_get h i ≡ Some d)
     → (c : ℕ) × (slice_get h (suc i) ≡ Some c) × (begins_with s c ≡ false)
     → MayBegin s h (suc i) → ⊥
 begins_later s h i (d, behind) (c, ahead, off) may =
@@ -148,7 +148,7 @@ begins_later s h i (d, behind) (c, ahead, off) may =
     neither false t = cc
 
 -- at the haystack's start too, where none begins whatever comes next
-pub begins_first : (s : Starts) (h : Text)
+pub begins_first : (s : FirstSet) (h : Text)
     → (c : ℕ) × (slice_get h 0 ≡ Some c) × (begins_with s c ≡ false) → s.at_start ≡ false
     → MayBegin s h 0 → ⊥
 begins_first s h (c, ahead, off) none may =
@@ -194,7 +194,7 @@ module _ (bs : List ℕ) (i : ℕ) (u : IsUtf8 bs) (within : i < length (chars b
         absurd (omega (arith, end, next_at, short))
   ]
 
-  pub second_off : (second : Starts) → stops_at second (slice_index bs (at + 1)) ≡ false
+  pub second_off : (second : FirstSet) → stops_at second (slice_index bs (at + 1)) ≡ false
       → MayBegin second (chars bs) (suc i) → ⊥
   second_off second off =
       let next = there_is (chars bs) (suc i) inside in

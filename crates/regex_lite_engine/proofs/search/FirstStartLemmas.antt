@@ -4,7 +4,7 @@ use Rattle.regex_lite_engine.proofs.Common.{◌∷◌, None, Some, Best, after, 
 use Rattle.regex_lite_engine.proofs.Common.{IsUtf8, sym, subst, inl, inr, arith, cases_lt}
 use Rattle.regex_lite_engine.proofs.Common.{mul-le-mul_left, zero, suc, true, false, ◌&&◌, ap}
 use Rattle.regex_lite_engine.proofs.Common.{if◌then◌else◌, nat_lt, length, slice_index_or, MayBegin}
-use Rattle.regex_lite_engine.proofs.Common.{Starts, chars, IsCharBoundary, Text, characters_left}
+use Rattle.regex_lite_engine.proofs.Common.{FirstSet, chars, IsCharBoundary, Text, characters_left}
 use Rattle.regex_lite_engine.proofs.Common.{IsDeadAt, position_at, IsHere, PassesTo, Here}
 use Rattle.regex_lite_engine.specs.Search.NumberedOutcomes.{IsBestOutcome, IsNumberedEndOf}
 use Rattle.regex_lite_engine.specs.Graph.Places.{Place}
@@ -88,7 +88,7 @@ bounded_from places arrows haystack s m tried entered looked later bounded =
     }
 
 -- where no character begins a match, none begins between the haystack's start and its end
-pub only_at_start : (s : Starts) (haystack : Text) (i : ℕ) → s.any ≡ false → 0 < i
+pub only_at_start : (s : FirstSet) (haystack : Text) (i : ℕ) → s.any ≡ false → 0 < i
     → i < length haystack → MayBegin s haystack i → ⊥
 only_at_start s haystack zero none low high may = absurd (omega (arith, low))
 only_at_start s haystack (suc j) none low high may =

@@ -8,9 +8,9 @@ use Rattle.regex_lite_engine.specs.Graph.SideBySide.{AreRegularPatterns}
 use Rattle.regex_lite_engine.specs.Graph.StoredList.{IsGraphOfList}
 use Rattle.regex_lite_engine.specs.Search.AnswerAt.{AnyMatchesAt, IsAnswerAtOfList}
 use Rattle.regex_lite_engine.specs.Search.NumberedList.{IsWantedAnswerTo}
-use Rattle.regex_lite_engine.specs.Search.NumberedOutcomes.{IsAnyTo, IsWantedOutcomeTo}
-use Rattle.regex_lite_engine.specs.Search.NumberedOutcomes.{numbered_at, numbered_told}
-use Rattle.regex_lite_engine.specs.Search.NumberedOutcomes.{with_origin_kept}
+use Rattle.regex_lite_engine.specs.Search.NumberedOutcomes.{IsAnyTo, IsWantedOutcomeTo, numbered_at}
+use Rattle.regex_lite_engine.specs.Search.NumberedOutcomes.{numbered_reported}
+use Rattle.regex_lite_engine.specs.Search.NumberedOutcomes.{with_match_start_kept}
 use Rattle.regex_lite_engine.specs.Search.Outcomes.{IsOutcomeAtOfList, IsSpanOutcomeAtOfList}
 use Rattle.regex_lite_engine.specs.declared.search.outcome.Outcome.{Outcome}
 use Rattle.regex_lite_engine.proofs.laws.several.NumberedListLemmas.{any_at_numbered}
@@ -37,39 +37,40 @@ module _ (whole : Bool) (trees : List Tree) (list : StoredList) (is : IsGraphOfL
       is.name is.written is.entries regular s whole k tree there here in
       none s k way q j (omega arith) numbered
 
-  pub list_span_at_told : (span : Option (ℕ × (ℕ × ℕ))) (slots : List (Option ℕ))
+  pub list_span_at_reported : (span : Option (ℕ × (ℕ × ℕ))) (slots : List (Option ℕ))
       → IsWantedOutcomeTo (table_of_list list) text list.entries whole s s
-      (with_origin_kept (numbered_at span slots))
+      (with_match_start_kept (numbered_at span slots))
       → IsSpanOutcomeAtOfList whole trees haystack start slots span
-  list_span_at_told None slots none =
+  list_span_at_reported None slots none =
       at_position (λ z. IsAnswerAtOfList whole trees text z None) (λ any. none_at none any)
-  list_span_at_told (Some (told, span)) slots (number, found, (up_to, answer), tells, to, held) =
-      let same : told ≡ number = tells.number_told in (
+  list_span_at_reported (Some (reported, span)) slots
+      (number, found, (up_to, answer), tells, to, held) =
+      let same : reported ≡ number = tells.number_reported in (
         found,
-        at_position (λ z. IsAnswerAtOfList whole trees text z (Some (told, found)))
+        at_position (λ z. IsAnswerAtOfList whole trees text z (Some (reported, found)))
             (subst (λ n. IsAnswerAtOfList whole trees text s (Some (n, found))) (sym same)
             (found_at_of_numbers trees text (table_of_list list) list.entries is.name is.written
             is.entries regular s whole number found up_to answer)),
-        record { start = tells.start_told; end = to; slots = held },
+        record { start = tells.start_reported; end = to; slots = held },
       )
 
-  pub list_outcome_at_told : (outcome : Option (ℕ × Outcome))
+  pub list_outcome_at_reported : (outcome : Option (ℕ × Outcome))
       → IsWantedOutcomeTo (table_of_list list) text list.entries whole s s
-      (with_origin_kept (numbered_told outcome))
+      (with_match_start_kept (numbered_reported outcome))
       → IsOutcomeAtOfList whole trees haystack start outcome
-  list_outcome_at_told None none = list_span_at_told None [] none
-  list_outcome_at_told (Some (told, outcome)) some =
-      list_span_at_told (Some (told, (outcome.start, outcome.end))) outcome.slots.items some
+  list_outcome_at_reported None none = list_span_at_reported None [] none
+  list_outcome_at_reported (Some (reported, outcome)) some =
+      list_span_at_reported (Some (reported, (outcome.start, outcome.end))) outcome.slots.items some
 
-  pub list_any_at_told : (best : Best)
+  pub list_any_at_reported : (best : Best)
       → IsAnyTo (table_of_list list) text list.entries whole s s best
       → IsTrue (is_some best) ↔ AnyMatchesAt whole trees text (search_start haystack start)
-  list_any_at_told None none = (
+  list_any_at_reported None none = (
     λ found. cc,
     λ any. absurd (none_at none (subst (AnyMatchesAt whole trees text)
         (start_inside haystack start inside) any)),
   )
-  list_any_at_told (Some best) (i, k, way, q, j, up_to, m) =
+  list_any_at_reported (Some best) (i, k, way, q, j, up_to, m) =
       (λ found. at_position (AnyMatchesAt whole trees text) there, λ any. refl)
     where
       there : AnyMatchesAt whole trees text s

@@ -12,8 +12,8 @@ use Rattle.regex_lite_engine.proofs.Common.{position_at, search_start}
 use Rattle.std.proofs.Common.{All}
 use Rattle.regex_lite_engine.specs.Graph.StoredList.{IsGraphOfList}
 use Rattle.regex_lite_engine.specs.Search.NumberedOutcomes.{IsBestOutcomeOf, IsNumberedEndOf}
-use Rattle.regex_lite_engine.specs.Search.NumberedOutcomes.{numbered_at, numbered_told}
-use Rattle.regex_lite_engine.specs.Search.NumberedOutcomes.{with_origin_kept}
+use Rattle.regex_lite_engine.specs.Search.NumberedOutcomes.{numbered_at, numbered_reported}
+use Rattle.regex_lite_engine.specs.Search.NumberedOutcomes.{with_match_start_kept}
 use Rattle.regex_lite_engine.specs.declared.search.outcome.Outcome.{Outcome}
 use Rattle.regex_lite_engine.specs.Graph.SideBySide.{AreRegularPatterns}
 use Rattle.regex_lite_engine.specs.Search.Outcomes.{HasCostOfList, IsOutcomeOfList}
@@ -65,46 +65,46 @@ module _ (trees : List Tree) (list : StoredList) (is : IsGraphOfList trees list)
 
   module _ (regular : AreRegularPatterns trees) where
     -- the answer over the numbers of places, as that of the list
-    answer_told : (answer : Option (ℕ × Found))
+    answer_reported : (answer : Option (ℕ × Found))
         → IsNumberedAnswerOf (table_of_list list) (chars haystack) list.entries
         (position_at haystack start) answer
         → IsAnswerOfList trees (chars haystack) (search_start haystack start) answer
-    answer_told answer numbered =
+    answer_reported answer numbered =
         at_position (λ s. IsAnswerOfList trees (chars haystack) s answer)
         (list_answer_of_numbers trees (chars haystack) (table_of_list list) list.entries is.name
         is.written is.entries regular (position_at haystack start) answer numbered)
 
-    pub list_span_told : (span : Option (ℕ × (ℕ × ℕ))) (slots : List (Option ℕ))
+    pub list_span_reported : (span : Option (ℕ × (ℕ × ℕ))) (slots : List (Option ℕ))
         → IsBestOutcomeOf (table_of_list list) (chars haystack) list.entries
-        (position_at haystack start) (with_origin_kept (numbered_at span slots))
+        (position_at haystack start) (with_match_start_kept (numbered_at span slots))
         → IsSpanOutcomeOfList trees haystack start slots span
-    list_span_told None slots none = answer_told None none
-    list_span_told (Some (told, span)) slots (number, found, answer, tells, to, held) =
-        let same : told ≡ number = tells.number_told in (
+    list_span_reported None slots none = answer_reported None none
+    list_span_reported (Some (reported, span)) slots (number, found, answer, tells, to, held) =
+        let same : reported ≡ number = tells.number_reported in (
           found,
           subst (λ n. IsAnswerOfList trees (chars haystack) (search_start haystack start)
-              (Some (n, found))) (sym same) (answer_told (Some (number, found)) answer),
-          record { start = tells.start_told; end = to; slots = held },
+              (Some (n, found))) (sym same) (answer_reported (Some (number, found)) answer),
+          record { start = tells.start_reported; end = to; slots = held },
         )
 
-    pub outcome_told : (outcome : Option (ℕ × Outcome))
+    pub outcome_reported : (outcome : Option (ℕ × Outcome))
         → IsBestOutcomeOf (table_of_list list) (chars haystack) list.entries
-        (position_at haystack start) (with_origin_kept (numbered_told outcome))
+        (position_at haystack start) (with_match_start_kept (numbered_reported outcome))
         → IsOutcomeOfList trees haystack start outcome
-    outcome_told None none = list_span_told None [] none
-    outcome_told (Some (told, outcome)) some =
-        list_span_told (Some (told, (outcome.start, outcome.end))) outcome.slots.items some
+    outcome_reported None none = list_span_reported None [] none
+    outcome_reported (Some (reported, outcome)) some =
+        list_span_reported (Some (reported, (outcome.start, outcome.end))) outcome.slots.items some
 
-    pub any_told : (best : Best)
+    pub any_reported : (best : Best)
         → IsNumberedEndOf (table_of_list list) (chars haystack) list.entries
         (position_at haystack start) best
         → IsTrue (is_some (option_map (λ z. z.1) best))
         ↔ AnyMatchesFrom trees (chars haystack) (search_start haystack start)
-    any_told None none = (
+    any_reported None none = (
       λ found. cc,
-      λ any. absurd (answer_told None none any),
+      λ any. absurd (answer_reported None none any),
     )
-    any_told (Some best) (end, shortest, at) = (
+    any_reported (Some best) (end, shortest, at) = (
       λ found. at_position (λ s. AnyMatchesFrom trees (chars haystack) s) there,
       λ any. refl,
     )
@@ -146,16 +146,16 @@ module _ (trees : List Tree) (list : StoredList) (is : IsGraphOfList trees list)
             },
           )
 
-      pub one_told : (best : Best)
+      pub one_reported : (best : Best)
           → IsNumberedEndOf (table_of_list list) (chars haystack)
           (slice_index list.entries number ∷ [])
           (position_at haystack start) best
           → IsTrue (is_some (option_map (λ z. z.1) best)) ↔ Here
-      one_told None none = (
+      one_reported None none = (
         λ found. cc,
         λ here. absurd (let (i, k, way, q, j, m) = numbered here in none i k way q j m),
       )
-      one_told (Some best) (end, shortest, at) = (λ found. there_is, λ here. refl)
+      one_reported (Some best) (end, shortest, at) = (λ found. there_is, λ here. refl)
         where
           there_is : Here
           there_is =
@@ -182,11 +182,11 @@ pub any_of_span : (trees : List Tree) → AreRegularPatterns trees → (haystack
     → IsSpanOutcomeOfList trees haystack start slots span
     → IsTrue (is_some span) ↔ AnyMatchesFrom trees (chars haystack) (search_start haystack start)
 any_of_span trees regular haystack start slots None none = (λ found. cc, λ any. absurd (none any))
-any_of_span trees regular haystack start slots (Some told) (found, is, tells) = (
+any_of_span trees regular haystack start slots (Some reported) (found, is, tells) = (
   λ yes. (
       let match = found_match is.tree (chars haystack)
-      (regular told.0 is.tree is.numbered) found.start found is.answer in (
-        told.0,
+      (regular reported.0 is.tree is.numbered) found.start found is.answer in (
+        reported.0,
         is.tree,
         is.numbered,
         (

@@ -3,7 +3,7 @@ use Rattle.regex_lite_engine.proofs.Common.{◌≡◌, ℕ, zero, suc, ◌+◌, 
 use Rattle.regex_lite_engine.proofs.Common.{length, slice_get, slice_index, Some, IsUtf8, chars}
 use Rattle.regex_lite_engine.proofs.Common.{sym, ap, ◌∙◌, subst, inl, inr, arith, slice_get_within}
 use Rattle.regex_lite_engine.proofs.Common.{may_start, IsPassedByAll, MayBegin, offset, IsHere}
-use Rattle.regex_lite_engine.proofs.Common.{AreDeadAt, PassesTo, AreListHeadsOf, ListHeads, Here}
+use Rattle.regex_lite_engine.proofs.Common.{AreDeadAt, PassesTo, IsPrefixIndexOf, PrefixIndex, Here}
 use Rattle.std.proofs.Common.{◌||◌}
 use Rattle.regex_lite_syntax.specs.Prefilter.Rows.{start_row, has}
 use Rattle.regex_lite_engine.specs.Graph.Places.{Place}
@@ -28,26 +28,26 @@ before_end bs p x u is some =
     let at = is.bytes in
     omega (arith, at, less, whole bs u)
 
-module _ (table : List (Place ℕ)) (entries : List ℕ) (heads : ListHeads)
-    (w : AreListHeadsOf table entries heads) (bs : List ℕ) (u : IsUtf8 bs) where
+module _ (table : List (Place ℕ)) (entries : List ℕ) (prefixes : PrefixIndex)
+    (w : IsPrefixIndexOf table entries prefixes) (bs : List ℕ) (u : IsUtf8 bs) where
   -- none begins after the haystack's start where the bytes say so
   dead_later : (i : ℕ) → suc i < length (chars bs) → offset (chars bs) (suc i) < length bs
-      → IsPassedByAll heads bs (offset (chars bs) (suc i))
+      → IsPassedByAll prefixes bs (offset (chars bs) (suc i))
       → AreDeadAt table (chars bs) entries (suc i)
   dead_later i within short (inl off) number entry is =
       let next = there_is (chars bs) (suc i) within in
-      w.any (chars bs) (suc i) (begins_later heads.any (chars bs) i
+      w.any (chars bs) (suc i) (begins_later prefixes.any (chars bs) i
       (there_is (chars bs) i (omega (arith, within)))
-      (next.0, next.1, first_byte heads.any bs (suc i) next.0 u next.1 within short ∙ off))
+      (next.0, next.1, first_byte prefixes.any bs (suc i) next.0 u next.1 within short ∙ off))
       number entry is
   dead_later i within short (inr (more, (first_in, second_in, off))) number entry is =
       w.each (chars bs) (suc i) number entry is
-      (ap (λ o. may_start heads o (slice_get (chars bs) (suc i))
+      (ap (λ o. may_start prefixes o (slice_get (chars bs) (suc i))
       (slice_get (chars bs) (suc (suc i))) number) before_is
-      ∙ ap (λ o. may_start heads (Some before) o (slice_get (chars bs) (suc (suc i))) number)
+      ∙ ap (λ o. may_start prefixes (Some before) o (slice_get (chars bs) (suc (suc i))) number)
       first_is
-      ∙ ap (λ o. may_start heads (Some before) (Some first) o number) second_is
-      ∙ ap (λ z. z || (false && has heads.rows start_row number))
+      ∙ ap (λ o. may_start prefixes (Some before) (Some first) o number) second_is
+      ∙ ap (λ z. z || (false && has prefixes.rows start_row number))
       (w.walkable.not_in_rows first second number first_in second_in
       (omega (arith, slice_get_within entries number entry is, w.count)) off))
     where
@@ -79,7 +79,7 @@ module _ (table : List (Place ℕ)) (entries : List ℕ) (heads : ListHeads)
 
   -- nor where a search stands between two characters
   pub dead_here : (p : ℕ) (x : Here) → IsHere (chars bs) p x → IsTrue (is_some x.before)
-      → IsTrue (is_some x.after) → IsPassedByAll heads bs x.at
+      → IsTrue (is_some x.after) → IsPassedByAll prefixes bs x.at
       → AreDeadAt table (chars bs) entries p
   dead_here zero x is behind ahead passed = absurd (no_character (ap is_some is.behind) behind)
     where
@@ -89,18 +89,18 @@ module _ (table : List (Place ℕ)) (entries : List ℕ) (heads : ListHeads)
       let within = before_character (chars bs) (suc i) x.after is.ahead ahead in
       let short = before_end bs (suc i) x u is ahead in
       dead_later i within (subst (λ at. at < length bs) is.bytes short)
-      (subst (IsPassedByAll heads bs) is.bytes passed)
+      (subst (IsPassedByAll prefixes bs) is.bytes passed)
 
   -- nor between these offsets, if none does at the haystack's start
   pub dead_between : (from to : ℕ) → to ≤ length bs
-      → ((k : ℕ) → from ≤ k → k < to → IsPassedByAll heads bs k)
-      → (from ≡ 0 → MayBegin heads.any (chars bs) 0 → ⊥)
+      → ((k : ℕ) → from ≤ k → k < to → IsPassedByAll prefixes bs k)
+      → (from ≡ 0 → MayBegin prefixes.any (chars bs) 0 → ⊥)
       → AllBetween (AreDeadAt table (chars bs) entries) (chars bs) from to
   dead_between from to most pass start i within above below =
       dead i within above (pass (offset (chars bs) i) above below) (omega (arith, below, most))
     where
       dead : (i : ℕ) → i < length (chars bs) → from ≤ offset (chars bs) i
-          → IsPassedByAll heads bs (offset (chars bs) i) → offset (chars bs) i < length bs
+          → IsPassedByAll prefixes bs (offset (chars bs) i) → offset (chars bs) i < length bs
           → AreDeadAt table (chars bs) entries i
       dead zero within above off short = w.any (chars bs) 0 (start (omega (arith, above)))
       dead (suc i) within above off short = dead_later i within short off

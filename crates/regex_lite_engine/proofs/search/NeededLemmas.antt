@@ -8,7 +8,7 @@ use Rattle.std.proofs.Math.ListN.{drop_of_length-le}
 use Rattle.std.proofs.lemmas.List.{drop-drop, get_or-drop}
 use Rattle.regex_lite_syntax.specs.Prefilter.Needed.{IsNextReach, IsOutOfReach, NeededWords, Reaches}
 use Rattle.regex_lite_syntax.specs.Prefilter.StartFacts.{NeverStarts, StartFacts}
-use Rattle.regex_lite_syntax.specs.Prefilter.Starts.{begins_with}
+use Rattle.regex_lite_syntax.specs.Prefilter.FirstSet.{begins_with}
 use Rattle.regex_lite_syntax.specs.Prefilter.Words.{AnyStandsAt, NoneStands, StartsWith, word_at}
 use Rattle.regex_lite_syntax.specs.declared.prefilter.words.needed.Reach.{Reach}
 use Rattle.regex_lite_syntax.specs.declared.prefilter.words.letter.Letter.{Letter}

@@ -11,7 +11,7 @@ use Rattle.regex_lite_engine.proofs.Common.{offset}
 use Rattle.regex_lite_engine.specs.Graph.Stored.{StoredGraph}
 use Rattle.regex_lite_engine.specs.Search.Counting.{IsCountable}
 use Rattle.regex_lite_engine.specs.Search.NumberedAnswer.{NoneStartsBefore}
-use Rattle.regex_lite_engine.specs.Search.NumberedOutcomes.{best_at, match_told}
+use Rattle.regex_lite_engine.specs.Search.NumberedOutcomes.{best_at, match_reported}
 use Rattle.regex_lite_engine.specs.Search.Outcomes.{IsEndOutcome, IsSpanOutcome, IsOutcome}
 use Rattle.std.proofs.lemmas.Str.{length-le-encodes}
 use Rattle.regex_lite_engine.specs.declared.search.outcome.Outcome.{Outcome}
@@ -97,13 +97,13 @@ pub start_inside : (bytes : List ℕ) (start : ℕ) → start ≤ length bytes
 start_inside bytes start inside = omega (arith, inside)
 
 -- what is allowed of the graph is allowed of the tree
-pub cost_told : (tree : Tree) (graph : StoredGraph) → IsGraphOf tree graph
+pub cost_reported : (tree : Tree) (graph : StoredGraph) → IsGraphOf tree graph
     → (haystack : List ℕ) (start : ℕ) → start ≤ length haystack → (tried entered looked : ℕ)
     → IsBounded (length (table_of graph)) (arrows_of (table_of graph)) (chars haystack)
     (position_at haystack start) tried entered looked
     → IsBounded (whole_places tree) (whole_arrows tree) (chars haystack)
     (search_start haystack start) tried entered looked
-cost_told tree graph is haystack start inside tried entered looked bounded =
+cost_reported tree graph is haystack start inside tried entered looked bounded =
     subst
     (λ z. IsBounded (whole_places tree) (whole_arrows tree) (chars haystack) z tried entered looked)
     (sym (start_inside haystack start inside))
@@ -115,11 +115,11 @@ cost_told tree graph is haystack start inside tried entered looked bounded =
     (length-map graph.places place_of ∙ is.places) bounded))
 
 -- where a match is told one was found, and what holds then holds
-pub told_entered : (P : Type 0) (outcome : Option Outcome) (found : Option (ℕ × ℕ)) (row : Row)
-    → match_told outcome ≡ best_at found row → IfSome found (λ _. P) → IfSome outcome (λ _. P)
-told_entered P None found row is holds = tt
-told_entered P (Some outcome) None row is holds = cc
-told_entered P (Some outcome) (Some span) row is holds = holds
+pub reported_entered : (P : Type 0) (outcome : Option Outcome) (found : Option (ℕ × ℕ)) (row : Row)
+    → match_reported outcome ≡ best_at found row → IfSome found (λ _. P) → IfSome outcome (λ _. P)
+reported_entered P None found row is holds = tt
+reported_entered P (Some outcome) None row is holds = cc
+reported_entered P (Some outcome) (Some span) row is holds = holds
 
 module _ (tree : Tree) (regular : IsRegular tree) (graph : StoredGraph)
     (is : IsGraphOf tree graph) (haystack : List ℕ) (start : ℕ)
@@ -128,15 +128,15 @@ module _ (tree : Tree) (regular : IsRegular tree) (graph : StoredGraph)
       → P (search_start haystack start)
   at_position P p = subst P (sym (start_inside haystack start inside)) p
 
-  pub span_told : (span : Option (ℕ × ℕ)) (slots : List (Option ℕ))
+  pub span_reported : (span : Option (ℕ × ℕ)) (slots : List (Option ℕ))
       → IsNumberedOutcome (table_of graph) (chars haystack) graph.start
       (position_at haystack start) (best_at span slots)
       → IsSpanOutcome tree haystack start slots span
-  span_told None slots none =
+  span_reported None slots none =
       at_position (λ s. IsAnswer tree (chars haystack) s None)
       (answer_of_numbers tree (chars haystack) (table_of graph) graph.start is.name is.written
       is.start regular (position_at haystack start) None none)
-  span_told (Some span) slots (found, answer, from, to, held) = (
+  span_reported (Some span) slots (found, answer, from, to, held) = (
     found,
     at_position (λ s. IsAnswer tree (chars haystack) s (Some found))
         (answer_of_numbers tree (chars haystack) (table_of graph) graph.start is.name
@@ -144,23 +144,23 @@ module _ (tree : Tree) (regular : IsRegular tree) (graph : StoredGraph)
     record { start = from; end = to; slots = held },
   )
 
-  pub answer_told : (outcome : Option Outcome)
+  pub answer_reported : (outcome : Option Outcome)
       → IsNumberedOutcome (table_of graph) (chars haystack) graph.start
-      (position_at haystack start) (match_told outcome)
+      (position_at haystack start) (match_reported outcome)
       → IsOutcome tree haystack start outcome
-  answer_told None none = span_told None [] none
-  answer_told (Some outcome) some =
-      span_told (Some (outcome.start, outcome.end)) outcome.slots.items some
+  answer_reported None none = span_reported None [] none
+  answer_reported (Some outcome) some =
+      span_reported (Some (outcome.start, outcome.end)) outcome.slots.items some
 
-  pub end_told : (best : Best)
+  pub end_reported : (best : Best)
       → IsNumberedEnd (table_of graph) (chars haystack) graph.start
       (position_at haystack start) best
       → IsEndOutcome tree haystack start (option_map (λ z. z.1) best)
-  end_told None none =
+  end_reported None none =
       at_position (λ s. IsShortest tree (chars haystack) s None)
       (shortest_of_numbers tree (chars haystack) (table_of graph) graph.start is.name
       is.written is.start regular (position_at haystack start) None none)
-  end_told (Some best) (end, shortest, to) = (
+  end_reported (Some best) (end, shortest, to) = (
     end,
     at_position (λ s. IsShortest tree (chars haystack) s (Some end))
         (shortest_of_numbers tree (chars haystack) (table_of graph) graph.start is.name

@@ -4,12 +4,12 @@ use Rattle.regex_lite_engine.proofs.Common.{IsTrue, slice_get, Some, None, Optio
 use Rattle.regex_lite_engine.proofs.Common.{◌∙◌, subst, arith, Text, Arrow, complete, with_arrows}
 use Rattle.regex_lite_engine.proofs.Common.{go, arrow_taken, step_from, arrow_count, place_of}
 use Rattle.regex_lite_engine.proofs.Common.{mark_of, place_with, is_complete, numbered_step, is_end}
-use Rattle.regex_lite_engine.proofs.Common.{Node, Offer}
+use Rattle.regex_lite_engine.proofs.Common.{Node, PendingNode}
 use Rattle.std.proofs.lemmas.Option.{slice_get_past}
 use Rattle.regex_lite_engine.specs.declared.nfa.place.Place as code
 use Rattle.regex_lite_engine.specs.Graph.Places.{Place}
 use Rattle.regex_lite_syntax.proofs.OptionLemmas.{not_there, same_some}
-use Rattle.regex_lite_engine.proofs.search.OfferLemmas as order
+use Rattle.regex_lite_engine.proofs.search.PendingLemmas as order
 
 -- the place with this number
 pub got_place : (spots : List code.Place) (q : ℕ) (x : code.Place) → slice_get spots q ≡ Some x
@@ -33,28 +33,29 @@ module _ (table : List (Place ℕ)) (h : Text) where
   no_arrow_at complete i k e = refl
   no_arrow_at (with_arrows arrows) i k e = cc
 
-  abbrev pub one : Option Node → List ℕ → List (Offer Node)
+  abbrev pub one : Option Node → List ℕ → List (PendingNode Node)
   one None w = []
   one (Some m) w = (m, w) ∷ []
 
   -- what a place offers
-  abbrev pub offered_by : Place ℕ → ℕ → List ℕ → ℕ → ℕ → List (Offer Node)
-  offered_by x p w zero k = []
-  offered_by x p w (suc c) k = one (step_from h x p k) (w ++ k ∷ []) ++ offered_by x p w c (suc k)
+  abbrev pub is_pending_by : Place ℕ → ℕ → List ℕ → ℕ → ℕ → List (PendingNode Node)
+  is_pending_by x p w zero k = []
+  is_pending_by x p w (suc c) k = one (step_from h x p k) (w ++ k ∷ []) ++ is_pending_by x p w c
+      (suc k)
 
   -- the place's arrows, one by one
-  pub offers_listed : (q p : ℕ) (w : List ℕ) (c j : ℕ)
-      → order.offers Node (numbered_step table h) (q, p) w c j
-      ≡ offered_by (place_with table q) p w c j
-  offers_listed q p w zero j = refl
-  offers_listed q p w (suc c) j =
-      by_first (step_from h (place_with table q) p j) (offers_listed q p w c (suc j))
+  pub pending_listed : (q p : ℕ) (w : List ℕ) (c j : ℕ)
+      → order.pending Node (numbered_step table h) (q, p) w c j
+      ≡ is_pending_by (place_with table q) p w c j
+  pending_listed q p w zero j = refl
+  pending_listed q p w (suc c) j =
+      by_first (step_from h (place_with table q) p j) (pending_listed q p w c (suc j))
     where
-      by_first : (o : Option Node) → order.offers Node (numbered_step table h) (q, p) w c (suc j)
-          ≡ offered_by (place_with table q) p w c (suc j)
-          → order.one_offer Node (numbered_step table h) o (w ++ j ∷ [])
-          ++ order.offers Node (numbered_step table h) (q, p) w c (suc j)
-          ≡ one o (w ++ j ∷ []) ++ offered_by (place_with table q) p w c (suc j)
+      by_first : (o : Option Node) → order.pending Node (numbered_step table h) (q, p) w c (suc j)
+          ≡ is_pending_by (place_with table q) p w c (suc j)
+          → order.one_pending_node Node (numbered_step table h) o (w ++ j ∷ [])
+          ++ order.pending Node (numbered_step table h) (q, p) w c (suc j)
+          ≡ one o (w ++ j ∷ []) ++ is_pending_by (place_with table q) p w c (suc j)
       by_first None e = e
       by_first (Some m) e = ap (λ z. (m, w ++ j ∷ []) ∷ z) e
 
@@ -78,13 +79,13 @@ module _ (table : List (Place ℕ)) (h : Text) (q p : ℕ) where
       closed b = cc
 
   -- where no arrow fits, nothing is offered
-  pub none_offered : ((k : ℕ) → numbered_step table h (q, p) k ≡ None) → (w : List ℕ) (c k : ℕ)
-      → offered_by table h (place_with table q) p w c k ≡ []
-  none_offered blocked w zero k = refl
-  none_offered blocked w (suc c) k =
+  pub none_is_pending : ((k : ℕ) → numbered_step table h (q, p) k ≡ None) → (w : List ℕ) (c k : ℕ)
+      → is_pending_by table h (place_with table q) p w c k ≡ []
+  none_is_pending blocked w zero k = refl
+  none_is_pending blocked w (suc c) k =
       ap (λ (o : Option Node). one table h o (w ++ k ∷ [])
-      ++ offered_by table h (place_with table q) p w c (suc k)) (blocked k)
-      ∙ none_offered blocked w c (suc k)
+      ++ is_pending_by table h (place_with table q) p w c (suc k)) (blocked k)
+      ∙ none_is_pending blocked w c (suc k)
 
   -- a free arrow leads to its place at the same position
   pub hops : (to : List ℕ) → place_with table q ≡ with_arrows (map go to) → (t l : ℕ)

@@ -6,15 +6,15 @@ use Rattle.regex_lite_engine.proofs.Common.{sym, refl, ap, ◌∙◌, subst, inl
 use Rattle.regex_lite_engine.proofs.Common.{inr, arith, cases_eq, cases_lt, nat_tests}
 use Rattle.regex_lite_engine.proofs.Common.{get_or-map-range_with_len, Text, after, character}
 use Rattle.regex_lite_engine.proofs.Common.{look, concat, Trees, more, IsPassed}
-use Rattle.regex_lite_engine.proofs.Common.{stops_at, MayBegin, Heads, ◌⊎◌}
+use Rattle.regex_lite_engine.proofs.Common.{stops_at, MayBegin, PrefixSets, ◌⊎◌}
 use Rattle.std.proofs.Common.{◌||◌, is_none, nat_eq}
 use Rattle.regex_lite_syntax.specs.Prefilter.Bytes.{suits}
 use Rattle.regex_lite_syntax.specs.declared.prefilter.Prefilter.TheVariants.{Pair}
-use Rattle.regex_lite_syntax.specs.Prefilter.Heads.{AreHeadsOfTree}
-use Rattle.regex_lite_syntax.specs.Prefilter.Starts.{begins_with, may_begin}
+use Rattle.regex_lite_syntax.specs.Prefilter.PrefixSets.{ArePrefixSetsOfTree}
+use Rattle.regex_lite_syntax.specs.Prefilter.FirstSet.{begins_with, may_begin}
 use Rattle.regex_lite_syntax.specs.Text.{before}
 use Rattle.regex_lite_syntax.specs.declared.hir.look.Look.{Look}
-use Rattle.regex_lite_engine.specs.Search.Prefixes.{just_starts, prefix_heads}
+use Rattle.regex_lite_engine.specs.Search.Prefixes.{just_starts, sets_of_prefix}
 
 module _ (code : ℕ) where
   -- what is noted of an ASCII character
@@ -75,12 +75,13 @@ module _ (code : ℕ) where
       (subst (λ z. IsTrue (z || (false && is_none (before h i)))) (sym (begins_same low)) refl)
 
 module _ (first second : ℕ) where
-  abbrev heads : Heads
-  heads = prefix_heads first second
+  abbrev prefixes : PrefixSets
+  prefixes = sets_of_prefix first second
 
   -- a row of parts that begins with two characters
   pub two_first : (rest : Trees) → first < 128 → second < 128
-      → AreHeadsOfTree (concat (more (character first) (more (character second) rest))) heads
+      → ArePrefixSetsOfTree (concat (more (character first) (more (character second) rest)))
+      prefixes
   two_first rest low below = record {
     first = λ h i j (k, (there, next), left). may_before first low h i there;
     second = λ h i j (k, (there, next), (l, (later, after_it), left)).
@@ -89,8 +90,8 @@ module _ (first second : ℕ) where
 
   -- or with a look before them
   pub two_after_look : (test : Look) (rest : Trees) → first < 128 → second < 128
-      → AreHeadsOfTree (concat (more (look test)
-      (more (character first) (more (character second) rest)))) heads
+      → ArePrefixSetsOfTree (concat (more (look test)
+      (more (character first) (more (character second) rest)))) prefixes
   two_after_look test rest low below = record {
     first = λ h i j (k, (holds, same), (l, (there, next), left)).
         may_before first low h i (subst (λ z. after h z ≡ Some first) (sym same) there);
@@ -101,11 +102,11 @@ module _ (first second : ℕ) where
 
   -- a byte at which they don't stand is passed
   pub passed_apart : (bytes : List ℕ) (at : ℕ) → (slice_index bytes at ≡ first → ⊥)
-      → IsPassed heads bytes at
+      → IsPassed prefixes bytes at
   passed_apart bytes at apart = inl (stops_apart first (slice_index bytes at) apart)
 
   pub passed_by_second : (bytes : List ℕ) (at : ℕ) → first < 128 → at + 1 < length bytes
-      → (slice_index bytes (at + 1) ≡ second → ⊥) → IsPassed heads bytes at
+      → (slice_index bytes (at + 1) ≡ second → ⊥) → IsPassed prefixes bytes at
   passed_by_second bytes at low short apart = elim (cases_eq (slice_index bytes at) first) [
     | inl same ↦
         inr (
@@ -120,7 +121,7 @@ module _ (first second : ℕ) where
   pub passed_unsuited : (bytes : List ℕ) (at : ℕ) → first < 128 → at + 1 < length bytes
       → suits (Pair (replicate 2 first) (replicate 2 second)) (slice_index bytes at)
       (slice_index bytes (at + 1)) ≡ false
-      → IsPassed heads bytes at
+      → IsPassed prefixes bytes at
   passed_unsuited bytes at low short off = elim (cases_eq (slice_index bytes at) first) [
     | inl same ↦ elim (cases_eq (slice_index bytes (at + 1)) second) [
       | inl same_too ↦ absurd (both same same_too)
@@ -129,17 +130,17 @@ module _ (first second : ℕ) where
     | inr other ↦ passed_apart bytes at other
   ]
     where
-      told : Bool → Bool → Bool
-      told x y = (x || (x || false)) && (y || (y || false))
+      reported : Bool → Bool → Bool
+      reported x y = (x || (x || false)) && (y || (y || false))
 
       both : slice_index bytes at ≡ first → slice_index bytes (at + 1) ≡ second → ⊥
       both same same_too =
           let one : nat_eq (slice_index bytes at) first ≡ true = grind (arith, nat_tests) in
           let two : nat_eq (slice_index bytes (at + 1)) second ≡ true
           = grind (arith, nat_tests) in
-          let suited : told (nat_eq (slice_index bytes at) first)
+          let suited : reported (nat_eq (slice_index bytes at) first)
           (nat_eq (slice_index bytes (at + 1)) second) ≡ true
-          = ap (λ x. told x (nat_eq (slice_index bytes (at + 1)) second)) one
-          ∙ ap (λ y. told true y) two in
+          = ap (λ x. reported x (nat_eq (slice_index bytes (at + 1)) second)) one
+          ∙ ap (λ y. reported true y) two in
           let never : true ≡ false = sym suited ∙ off in
           cc

@@ -4,14 +4,14 @@ use Rattle.regex_lite_engine.proofs.Common.{List, length, slice_index, Some, Non
 use Rattle.regex_lite_engine.proofs.Common.{chars, sym, ap, ◌∙◌, subst, inl, inr, arith}
 use Rattle.regex_lite_engine.proofs.Common.{mul-le-mul_left, Text, NeverBegins}
 use Rattle.regex_lite_engine.proofs.Common.{IsPassed, stops_at, MayBegin, offset, IsHere, PassesTo}
-use Rattle.regex_lite_engine.proofs.Common.{Heads, Starts, Here, IsOffset}
+use Rattle.regex_lite_engine.proofs.Common.{PrefixSets, FirstSet, Here, IsOffset}
 use Rattle.regex_lite_engine.proofs.Common.{IfSome, drop, encodes-chars}
 use Rattle.std.proofs.Common.{MatchOption, encode_utf8_all}
 use Rattle.regex_lite_syntax.specs.Prefilter.StartFacts.{NoneStandsIn}
 use Rattle.regex_lite_syntax.specs.Prefilter.Words.{AnyStandsAt}
 use Rattle.regex_lite_syntax.specs.declared.prefilter.words.letter.Letter.{Letter}
 use Rattle.regex_lite_engine.specs.Search.Starts.{SkipsTo}
-use Rattle.regex_lite_syntax.specs.Prefilter.Heads.{IsCutOff}
+use Rattle.regex_lite_syntax.specs.Prefilter.PrefixSets.{IsCutOff}
 use Rattle.regex_lite_syntax.proofs.LookupLemmas.{there_is}
 use Rattle.regex_lite_engine.proofs.OffsetLemmas.{offset_grows, offset_less, positions_order}
 use Rattle.regex_lite_engine.proofs.OffsetLemmas.{rest_at}
@@ -19,14 +19,14 @@ use Rattle.regex_lite_engine.proofs.search.FirstByteLemmas.{begins_first, begins
 use Rattle.regex_lite_engine.proofs.search.FirstByteLemmas.{second_off}
 
 -- none begins where the bytes show that no second character does
-pub cut_off_never : (heads : Heads) (bs : List ℕ) (i : ℕ) → IsUtf8 bs → i < length (chars bs)
-    → IsCutOff heads bs (offset (chars bs) i) → NeverBegins heads (chars bs) i
-cut_off_never heads bs i u within cut = inr (by_second heads.second cut)
+pub cut_off_never : (prefixes : PrefixSets) (bs : List ℕ) (i : ℕ) → IsUtf8 bs → i < length
+    (chars bs) → IsCutOff prefixes bs (offset (chars bs) i) → NeverBegins prefixes (chars bs) i
+cut_off_never prefixes bs i u within cut = inr (by_second prefixes.second cut)
   where
     at : ℕ
     at = offset (chars bs) i
 
-    by_second : (o : Option Starts)
+    by_second : (o : Option FirstSet)
         → MatchOption o ⊥ (λ second. (at + 1 < length bs) × (slice_index bs at < 128)
         × (stops_at second (slice_index bs (at + 1)) ≡ false))
         → MatchOption o ⊥ (λ second. ¬ (MayBegin second (chars bs) (suc i)))
@@ -54,36 +54,40 @@ passes_where {h = h} {p} {at} {q} (inside, here) js le each = record {
 
 -- none begins at the positions that the bytes rule out. At the haystack's start they don't, where
 -- one may begin there whatever comes next
-pub never_between : (heads : Heads) (bs : List ℕ) (from to : ℕ) → IsUtf8 bs
-    → (from ≡ 0 → heads.first.at_start ≡ false) → to ≤ length bs
-    → ((k : ℕ) → from ≤ k → k < to → IsPassed heads bs k)
-    → AllBetween (NeverBegins heads (chars bs)) (chars bs) from to
-never_between heads bs from to utf8 start most pass i within above below =
+pub never_between : (prefixes : PrefixSets) (bs : List ℕ) (from to : ℕ) → IsUtf8 bs
+    → (from ≡ 0 → prefixes.first.at_start ≡ false) → to ≤ length bs
+    → ((k : ℕ) → from ≤ k → k < to → IsPassed prefixes bs k)
+    → AllBetween (NeverBegins prefixes (chars bs)) (chars bs) from to
+never_between prefixes bs from to utf8 start most pass i within above below =
     passed i within above (omega (arith, below, most)) (pass (offset (chars bs) i) above below)
   where
     passed : (i : ℕ) → i < length (chars bs) → from ≤ offset (chars bs) i
-        → offset (chars bs) i < length bs → IsPassed heads bs (offset (chars bs) i)
-        → NeverBegins heads (chars bs) i
-    passed i within above short (inr cut) = cut_off_never heads bs i utf8 within cut
+        → offset (chars bs) i < length bs → IsPassed prefixes bs (offset (chars bs) i)
+        → NeverBegins prefixes (chars bs) i
+    passed i within above short (inr cut) = cut_off_never prefixes bs i utf8 within cut
     passed zero within above short (inl off) =
         let first = there_is (chars bs) 0 within in
-        inl (begins_first heads.first (chars bs)
-        (first.0, first.1, first_byte heads.first bs 0 first.0 utf8 first.1 within short ∙ off)
+        inl (begins_first prefixes.first (chars bs)
+        (first.0, first.1, first_byte prefixes.first bs 0 first.0 utf8 first.1 within short ∙ off)
         (start (omega (arith, above))))
     passed (suc i) within above short (inl off) =
         let next = there_is (chars bs) (suc i) within in
-        inl (begins_later heads.first (chars bs) i
-        (there_is (chars bs) i (omega (arith, within)))
-        (next.0, next.1, first_byte heads.first bs (suc i) next.0 utf8 next.1 within short ∙ off))
+        inl (begins_later prefixes.first (chars bs) i
+        (there_is (chars bs) i (omega (arith, within))) (
+          next.0,
+          next.1,
+          first_byte prefixes.first bs (suc i) next.0 utf8 next.1 within short
+              ∙ off,
+        ))
 
 -- so a search that goes on behind them passes them
-pub passes_between : (heads : Heads) (bs : List ℕ) {p at q : ℕ} {y : Here} → IsUtf8 bs
+pub passes_between : (prefixes : PrefixSets) (bs : List ℕ) {p at q : ℕ} {y : Here} → IsUtf8 bs
     → IsOffset (chars bs) p at → IsHere (chars bs) q y
-    → (at ≡ 0 → heads.first.at_start ≡ false) → at ≤ y.at → y.at ≤ length bs
-    → ((k : ℕ) → at ≤ k → k < y.at → IsPassed heads bs k)
-    → PassesTo (NeverBegins heads (chars bs)) (chars bs) p y
-passes_between heads bs {p} {at} {q} {y} utf8 is js start le most pass =
-    passes_where is js le (never_between heads bs at y.at utf8 start most pass)
+    → (at ≡ 0 → prefixes.first.at_start ≡ false) → at ≤ y.at → y.at ≤ length bs
+    → ((k : ℕ) → at ≤ k → k < y.at → IsPassed prefixes bs k)
+    → PassesTo (NeverBegins prefixes (chars bs)) (chars bs) p y
+passes_between prefixes bs {p} {at} {q} {y} utf8 is js start le most pass =
+    passes_where is js le (never_between prefixes bs at y.at utf8 start most pass)
 
 pub passes_as : (Passed Other : ℕ → Type 0) (h : Text) (p : ℕ) (x : Here)
     → ((i : ℕ) → Passed i → Other i) → PassesTo Passed h p x → PassesTo Other h p x

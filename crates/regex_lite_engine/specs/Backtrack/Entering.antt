@@ -22,9 +22,9 @@ module _ (at : ℕ) where
 
   -- the continuation is to read on if a character of the set comes next
   abbrev pub IsReadOn : Set → (next : Option ℕ) → (to : ℕ) → Continuation → Type 0
-  IsReadOn set next to told =
-      ((frames : List Frame) → onto told frames ≡ read_on set next to frames)
-      × (completes told ≡ false)
+  IsReadOn set next to reported =
+      ((frames : List Frame) → onto reported frames ≡ read_on set next to frames)
+      × (completes reported ≡ false)
 
   -- the slot holds the offset, until the path is abandoned; a slot beyond the row is not kept
   abbrev pub SlotMarked : (slot to : ℕ) → (held held' : Held) → Type 0

@@ -32,7 +32,7 @@ completes Complete = true
 
 -- the end of a match that is complete at the offset
 abbrev pub end_at : (at : ℕ) → Continuation → Option ℕ
-end_at at told = if completes told then Some at else None
+end_at at reported = if completes reported then Some at else None
 
 -- the pairs of a place and an offset, for this many places, from the first offset on
 pub record Pairs : Type 0 where

@@ -3,10 +3,10 @@ use Rattle.std.specs.Prelude.{◌≡◌, ◌+◌, ◌-◌, ◌*◌, ◌≤◌, �
 use Rattle.std.specs.Prelude.{replicate, slice_set, Option, Some, None, sum_by}
 use Rattle.regex_lite_engine.specs.declared.backtrack.walk.Backtracker.{Backtracker}
 use Rattle.regex_lite_engine.specs.Backtrack.Machine.{Frame, explore, restore}
-use Rattle.regex_lite_engine.specs.Backtrack.Room.{searching, with_frames, AreAll, GoesOn, HasRoom}
-use Rattle.regex_lite_engine.specs.Backtrack.Room.{due_entries, due_tries}
+use Rattle.regex_lite_engine.specs.Backtrack.Capacity.{searching, with_frames, AreAll, GoesOn}
+use Rattle.regex_lite_engine.specs.Backtrack.Capacity.{HasCapacity, due_entries, due_tries}
 use Rattle.regex_lite_engine.specs.Backtrack.Walking.{IsWalking}
-use Rattle.regex_lite_engine.specs.Graph.Places.{Place, kept_back_with}
+use Rattle.regex_lite_engine.specs.Graph.Places.{Place, stack_bound_with}
 use Rattle.regex_lite_engine.specs.Graph.Renumbered.{arrows_of}
 use Rattle.regex_lite_engine.specs.Search.Bounds.{characters_left}
 use Rattle.regex_lite_engine.specs.Search.Offsets.{position_at}
@@ -19,28 +19,28 @@ SlotsBelow width (explore place at ∷ frames) = SlotsBelow width frames
 SlotsBelow width (restore slot old ∷ frames) = (slot < width) × SlotsBelow width frames
 
 -- frames are popped up to the first that explores a place
-abbrev pub Unwinds : Row → List Frame → (next : Option (ℕ × ℕ)) → Row → List Frame → Type 0
-Unwinds row [] next row' frames' = (next ≡ None) × (row' ≡ row) × (frames' ≡ [])
-Unwinds row (explore place at ∷ frames) next row' frames' =
+abbrev pub Restores : Row → List Frame → (next : Option (ℕ × ℕ)) → Row → List Frame → Type 0
+Restores row [] next row' frames' = (next ≡ None) × (row' ≡ row) × (frames' ≡ [])
+Restores row (explore place at ∷ frames) next row' frames' =
     (next ≡ Some (place, at)) × (row' ≡ row) × (frames' ≡ frames)
-Unwinds row (restore slot old ∷ frames) next row' frames' =
-    Unwinds (slice_set row slot old) frames next row' frames'
+Restores row (restore slot old ∷ frames) next row' frames' =
+    Restores (slice_set row slot old) frames next row' frames'
 
 module _ (table : List (Place ℕ)) (haystack : List ℕ) where
   -- all ways from the start at this offset were followed, or a match ends at `end`
   pub record Explores (entry start : ℕ) (walk walk' : Backtracker) (end : Option ℕ) : Type 0 where
     pub on : GoesOn table haystack (with_frames walk (explore entry start ∷ []))
         (with_frames walk' []) end
-    pub fit : end ≡ None → HasRoom table haystack walk' []
+    pub fit : end ≡ None → HasCapacity table haystack walk' []
     pub empty : end ≡ None → walk'.stack.frames ≡ []
     pub entered_tried : walk'.steps.entered ≤ walk'.steps.tried
     pub looked_entered : walk'.steps.looked ≤ walk'.steps.entered
 
   module _ (start : ℕ) where
     -- there is room for the frames of all pairs
-    abbrev pub HasRoomForAll : Backtracker → Type 0
-    HasRoomForAll walk =
-        sum_by (kept_back_with (length walk.stack.row)) table * (length haystack - start + 1)
+    abbrev pub HasCapacityForAll : Backtracker → Type 0
+    HasCapacityForAll walk =
+        sum_by (stack_bound_with (length walk.stack.row)) table * (length haystack - start + 1)
         ≤ walk.stack.room
 
     -- a search from this offset on has not begun
@@ -51,7 +51,7 @@ module _ (table : List (Place ℕ)) (haystack : List ℕ) where
           ≡ replicate (length table * (length haystack - start + 1)) false
       pub frames : walk.stack.frames ≡ []
       pub blank : IsBlank walk.stack.row
-      pub room : HasRoomForAll walk
+      pub room : HasCapacityForAll walk
       pub tried : walk.steps.tried ≡ 0
       pub entered : walk.steps.entered ≡ 0
       pub looked : walk.steps.looked ≡ 0
@@ -61,8 +61,8 @@ module _ (table : List (Place ℕ)) (haystack : List ℕ) where
     pub record IsUnderWay (entry p : ℕ) (walk : Backtracker) : Type 0 where
       pub low : position_at haystack start ≤ p
       pub first : walk.visited.first ≡ start
-      pub fit : HasRoom table haystack walk []
-      pub room : HasRoomForAll walk
+      pub fit : HasCapacity table haystack walk []
+      pub room : HasCapacityForAll walk
       pub empty : walk.stack.frames ≡ []
       pub walking : IsWalking table
           (searching table haystack entry (position_at haystack start) p 0) walk.visited

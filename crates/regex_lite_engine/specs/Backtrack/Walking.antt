@@ -10,7 +10,7 @@ use Rattle.regex_lite_engine.specs.Graph.Places.{Place}
 use Rattle.regex_lite_engine.specs.Search.Offsets.{offset, IsOffset, HasSlots}
 use Rattle.regex_lite_engine.specs.Search.Marks.{marks_along}
 use Rattle.regex_lite_engine.specs.Graph.Ways.{Leads}
-use Rattle.regex_lite_engine.specs.Search.Offers.{Offer, Node}
+use Rattle.regex_lite_engine.specs.Search.Pending.{PendingNode, Node}
 use Rattle.regex_lite_engine.specs.Search.Rows.{Row, IsBlank}
 use Rattle.regex_lite_engine.specs.Search.NumberedAnswer.{place_with, numbered_step, is_end}
 
@@ -24,14 +24,14 @@ module _ (table : List (Place ℕ)) (haystack : Text) (entry : ℕ) where
 
   -- The frames hold the offers, the first on top. The row of each is the row when its frame is
   -- popped, and once all have been popped no slot is marked
-  abbrev pub FramesHold : (start : ℕ) → Row → List Frame → List (Offer Node) → Type 0
-  FramesHold start row [] offers = (offers ≡ []) × IsBlank row
-  FramesHold start row (explore place at ∷ frames) offers =
-      (p : ℕ) × (way : List ℕ) × (rest : List (Offer Node)) × IsOffset haystack p at
-      × (offers ≡ ((place, p), way) ∷ rest) × WayHolds start row (place, p) way
+  abbrev pub FramesHold : (start : ℕ) → Row → List Frame → List (PendingNode Node) → Type 0
+  FramesHold start row [] pending = (pending ≡ []) × IsBlank row
+  FramesHold start row (explore place at ∷ frames) pending =
+      (p : ℕ) × (way : List ℕ) × (rest : List (PendingNode Node)) × IsOffset haystack p at
+      × (pending ≡ ((place, p), way) ∷ rest) × WayHolds start row (place, p) way
       × FramesHold start row frames rest
-  FramesHold start row (restore slot old ∷ frames) offers =
-      FramesHold start (slice_set row slot old) frames offers
+  FramesHold start row (restore slot old ∷ frames) pending =
+      FramesHold start (slice_set row slot old) frames pending
 
 -- A search from position `first` on, for the pattern with this entry. The starts below position
 -- `from` were offered, and the ways from the start at the offset i are followed
@@ -46,10 +46,10 @@ pub record SearchFrom : Type 0 where
 pub record IsWalking (table : List (Place ℕ)) (search : SearchFrom) (pairs : Pairs) (held : Held)
     : Type 0 where
   pub recorded : Node → Option (List ℕ)
-  pub offers : List (Offer Node)
+  pub pending : List (PendingNode Node)
   pub depth_first : IsDepthFirst Node (numbered_step table search.haystack)
       (λ p. (search.entry, p)) (is_end table search.haystack) search.first
-      (length search.haystack) search.from recorded offers
+      (length search.haystack) search.from recorded pending
   -- exactly the pairs with a recorded way were entered
   pub seen : (place p : ℕ) (way : List ℕ) → recorded (place, p) ≡ Some way
       → was_entered pairs place (offset search.haystack p) ≡ true
@@ -57,4 +57,4 @@ pub record IsWalking (table : List (Place ℕ)) (search : SearchFrom) (pairs : P
       → was_entered pairs place (offset search.haystack p) ≡ true
       → (way : List ℕ) × (recorded (place, p) ≡ Some way)
   pub frames_hold : FramesHold table search.haystack search.entry search.i held.row held.frames
-      offers
+      pending

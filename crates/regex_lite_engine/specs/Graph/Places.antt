@@ -110,20 +110,21 @@ module _ {A : Type 0} where
 
   -- the stack bound of a place: the number of frames that a search pushes when it follows the first
   -- arrow, for the other arrows and for the slot that the first one marks
-  abbrev pub kept_back : Place A → ℕ
-  kept_back complete = 0
-  kept_back (with_arrows []) = 0
-  kept_back (with_arrows (arrow ∷ arrows)) = length arrows + mark_count arrow.mark
+  abbrev pub stack_bound : Place A → ℕ
+  stack_bound complete = 0
+  stack_bound (with_arrows []) = 0
+  stack_bound (with_arrows (arrow ∷ arrows)) = length arrows + mark_count arrow.mark
 
   -- the stack bound of a place for a search that keeps this many slots: with none, only the other
   -- arrows count
-  abbrev pub kept_back_with : (slots : ℕ) → Place A → ℕ
-  kept_back_with slots complete = 0
-  kept_back_with slots (with_arrows []) = 0
-  kept_back_with slots (with_arrows (arrow ∷ arrows)) = length arrows + kept_marks arrow.mark slots
+  abbrev pub stack_bound_with : (slots : ℕ) → Place A → ℕ
+  stack_bound_with slots complete = 0
+  stack_bound_with slots (with_arrows []) = 0
+  stack_bound_with slots (with_arrows (arrow ∷ arrows)) = length arrows + kept_marks arrow.mark
+      slots
 
-  abbrev pub kept_back_of : List (Place A) → ℕ
-  kept_back_of places = sum_by kept_back places
+  abbrev pub stack_bound_of : List (Place A) → ℕ
+  stack_bound_of places = sum_by stack_bound places
 
   -- the place with the position
   abbrev pub arrived : A → Option ℕ → Option (A × ℕ)

@@ -5,10 +5,10 @@ use Rattle.std.specs.declared.alloc.Global.{Global}
 use Rattle.std.specs.declared.rc.RcStr.{RcStr}
 use Rattle.regex_lite_engine.specs.Graph.Places.{Arrow, Place, complete, with_arrows, go}
 use Rattle.regex_lite_engine.specs.Graph.Places.{go_marking, go_holding, one_char, one_of}
-use Rattle.regex_lite_engine.specs.Graph.Places.{reading_of, kept_back_of, kept_back_with}
+use Rattle.regex_lite_engine.specs.Graph.Places.{reading_of, stack_bound_of, stack_bound_with}
 use Rattle.regex_lite_engine.specs.declared.nfa.place.Place as code
 use Rattle.regex_lite_engine.specs.declared.nfa.place.Place.TheVariants as stored
-use Rattle.regex_lite_engine.specs.declared.nfa.kept_back.KeptBack.{KeptBack}
+use Rattle.regex_lite_engine.specs.declared.nfa.stack_bound.StackBound.{StackBound}
 
 -- the table of a graph as callers see it
 pub record StoredTable : Type 0 where
@@ -75,9 +75,9 @@ LeadInside places =
     → LeadsBelow (length places) (place_of place)
 
 -- the stack bound of a search that enters each of these places once, without slots and with them
-pub record IsKeptBackOf (table : List (Place ℕ)) (kept : KeptBack) : Type 0 where
-  pub without_slots : kept.without_slots ≡ sum_by (kept_back_with 0) table
-  pub with_slots : kept.with_slots ≡ kept_back_of table
+pub record IsStackBoundOf (table : List (Place ℕ)) (kept : StackBound) : Type 0 where
+  pub without_slots : kept.without_slots ≡ sum_by (stack_bound_with 0) table
+  pub with_slots : kept.with_slots ≡ stack_bound_of table
 
 -- all arrows lead to places of the table, and its places and arrows can be numbered; this many of
 -- the places read a character, and the stack bound is less than the number of places; the table of
@@ -88,4 +88,4 @@ pub record IsClosed (places : List code.Place) (arrows reading : ℕ) : Type 0 w
   pub few_arrows : arrows < 2 ^ 34
   pub few_reading : 0 < length places → reading < length places
   pub each_reading : reading_of (map place_of places) ≡ reading
-  pub few_kept_back : 0 < length places → kept_back_of (map place_of places) < length places
+  pub few_stack_bound : 0 < length places → stack_bound_of (map place_of places) < length places

@@ -59,9 +59,9 @@ module _ (greedy : Bool) (body : ℕ → ℕ → Fragment) where
   -- the join, the choices with their bodies, the copies that are needed
   abbrev pub between_layout : (least choices : ℕ) → (base exit : ℕ) → Fragment
   between_layout least choices base exit =
-      let turns = choices_layout choices (base + 1) base in
-      let needed = needed_layout body least choices (base + 1 + length turns.0) turns.1 in
-      (with_arrows (go exit ∷ []) ∷ (turns.0 ++ needed.0), needed.1)
+      let steps = choices_layout choices (base + 1) base in
+      let needed = needed_layout body least choices (base + 1 + length steps.0) steps.1 in
+      (with_arrows (go exit ∷ []) ∷ (steps.0 ++ needed.0), needed.1)
 
   -- the layouts by the least number and the difference between the most and the least
   abbrev pub bounded_layout : (least above : ℕ) → (base exit : ℕ) → Fragment

@@ -7,7 +7,7 @@ use Rattle.regex_lite_engine.specs.declared.search.here.Here.{Here}
 use Rattle.regex_lite_engine.specs.Graph.Parts.{IsOwnPart, IsWithin}
 use Rattle.regex_lite_engine.specs.Graph.Places.{Arrow, Condition, free, holding}
 use Rattle.regex_lite_engine.specs.Graph.Places.{reading, Place, complete, with_arrows}
-use Rattle.regex_lite_engine.specs.Search.Beginnings.{Told}
+use Rattle.regex_lite_engine.specs.Search.ThreadStarts.{Reported}
 use Rattle.regex_lite_engine.specs.Pikevm.Entering.{reads}
 use Rattle.regex_lite_engine.specs.Pikevm.Machine.{State, Thread}
 use Rattle.regex_lite_engine.specs.Search.NumberedOutcomes.{Best}
@@ -39,17 +39,18 @@ pub record AreAlike (table : List (Place ℕ)) (entries : List ℕ) (here there 
       → FitsAlike place here there
 
 -- the thread, with something else known of its start
-abbrev pub retold : (Told → Told) → Thread → Thread
-retold tell thread = (thread.0, tell thread.1, [])
+abbrev pub relabelled : (Reported → Reported) → Thread → Thread
+relabelled tell thread = (thread.0, tell thread.1, [])
 
-abbrev pub all_retold : (Told → Told) → List Thread → List Thread
-all_retold tell threads = map (retold tell) threads
+abbrev pub all_relabelled : (Reported → Reported) → List Thread → List Thread
+all_relabelled tell threads = map (relabelled tell) threads
 
-abbrev pub state_retold : (Told → Told) → State → State
-state_retold tell state = record state { row = []; next = all_retold tell state.next }
+abbrev pub state_relabelled : (Reported → Reported) → State → State
+state_relabelled tell state = record state { row = []; next = all_relabelled tell state.next }
 
 -- the best match after the transition: the one before, or one that ends at this offset
-abbrev pub best_again : (Told → Told) → (at : ℕ) → (hit : Bool) → (found before : Best) → Best
+abbrev pub best_again : (Reported → Reported) → (at : ℕ) → (match_flag : Bool)
+    → (found before : Best) → Best
 best_again tell at false found before = before
 best_again tell at true None before = before
 best_again tell at true (Some found) before = Some (tell found.0, at, [])

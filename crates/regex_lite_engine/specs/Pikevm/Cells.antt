@@ -9,7 +9,7 @@ use Rattle.regex_lite_engine.specs.declared.pikevm.cell.Job as code
 use Rattle.regex_lite_engine.specs.declared.pikevm.cell.Job.TheVariants as stored
 use Rattle.regex_lite_engine.specs.declared.pikevm.cell.Side.{Side}
 use Rattle.regex_lite_engine.specs.declared.pikevm.cell.Side.TheVariants.{First, Second}
-use Rattle.regex_lite_engine.specs.Search.Beginnings.{Told, untold}
+use Rattle.regex_lite_engine.specs.Search.ThreadStarts.{Reported, no_start}
 use Rattle.regex_lite_engine.specs.Pikevm.Machine.{Job, explore, restore, Thread}
 use Rattle.regex_lite_engine.specs.Search.Rows.{Row}
 
@@ -72,15 +72,15 @@ row_on First k = 2 * k + 1
 row_on Second k = 2 * k + 2
 
 -- what the thread keeps of its start
-abbrev pub start_told : {S : Type 0} → (S → Told) → Side → Cell S → Told
-start_told told side cell = told (start_on side cell)
+abbrev pub start_reported : {S : Type 0} → (S → Reported) → Side → Cell S → Reported
+start_reported reported side cell = reported (start_on side cell)
 
-module _ {S : Type 0} (told : S → Told) (side : Side) (cells : List (Cell S)) (rows : List Row)
-    (room : ℕ) where
+module _ {S : Type 0} (reported : S → Reported) (side : Side) (cells : List (Cell S))
+    (rows : List Row) (room : ℕ) where
   abbrev pub thread_on : ℕ → Thread
   thread_on k = (
     slice_index (map (place_on side) cells) k,
-    slice_index_or (map (start_told told side) cells) k untold,
+    slice_index_or (map (start_reported reported side) cells) k no_start,
     nth_row rows (row_on side k),
   )
 

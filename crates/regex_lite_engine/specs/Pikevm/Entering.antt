@@ -5,7 +5,7 @@ use Rattle.std.specs.Prelude.{map, Option, Some, None, slice_set, slice_index_or
 use Rattle.regex_lite_syntax.specs.Ranges.{in_ranges}
 use Rattle.regex_lite_syntax.specs.Sets.{Set, just}
 use Rattle.regex_lite_syntax.specs.Tree.Looks.{holds_between}
-use Rattle.regex_lite_engine.specs.Search.Beginnings.{Told}
+use Rattle.regex_lite_engine.specs.Search.ThreadStarts.{Reported}
 use Rattle.regex_lite_engine.specs.Search.NumberedAnswer.{are_wanted_before}
 use Rattle.regex_lite_engine.specs.declared.nfa.place.Place.{Place}
 use Rattle.regex_lite_engine.specs.declared.nfa.place.Place.TheVariants as stored
@@ -56,17 +56,17 @@ SlotMarked at slot to before after =
     }))))
     ⊎ ((length before.row ≤ slot) × (after ≡ pushing before (explore to ∷ [])))
 
-module _ (whole : Bool) (here : Here) (told : Told) where
-  -- `told` is what is kept of the start of the path to the place; `done` says that a match that is
-  -- wanted is complete there
+module _ (whole : Bool) (here : Here) (reported : Reported) where
+  -- `reported` is what is kept of the start of the path to the place; `done` says that a match that
+  -- is wanted is complete there
   abbrev pub Enters : Place → (before after : State) → (done : Bool) → Type 0
   Enters (stored.Empty to) before after done =
       (after ≡ pushing before (explore to ∷ [])) × (done ≡ false)
   Enters (stored.Char c to) before after done =
-      (after ≡ reading_on (reads (just c) here.after) before (to, told, before.row))
+      (after ≡ reading_on (reads (just c) here.after) before (to, reported, before.row))
       × (done ≡ false)
   Enters (stored.Class to set) before after done =
-      (after ≡ reading_on (reads (in_ranges set) here.after) before (to, told, before.row))
+      (after ≡ reading_on (reads (in_ranges set) here.after) before (to, reported, before.row))
       × (done ≡ false)
   Enters (stored.Look test to) before after done =
       (after ≡ (if holds_between test here.before here.after then pushing before (explore to ∷ [])

@@ -5,14 +5,14 @@ use Rattle.std.specs.Prelude.{◌≡◌, ◌≤◌, ◌⊎◌, ℕ, suc, Bool, I
 use Rattle.std.specs.Prelude.{List, [], ◌∷◌, ◌++◌, Option, Some}
 use Rattle.regex_lite_engine.specs.Search.Preference.{IsPreferred}
 use Rattle.regex_lite_engine.specs.Search.Explored.{NotAfter, IsAnswered, IsGrown, IsDead}
-use Rattle.regex_lite_engine.specs.Search.Offers.{Offer, In, Ordered, StartsBelow}
+use Rattle.regex_lite_engine.specs.Search.Pending.{PendingNode, In, Ordered, StartsBelow}
 
 module _ (N : Type 0) (step : N → ℕ → Option N) (IsStart : (front : List ℕ) → N → Type 0)
     (is_end : N → Bool) (position : N → ℕ) where
   -- The walk at position p: the pending ways there are `now`, and those at the next position so far
   -- are `next`; the starts below `from` were offered, or lead to no end
-  pub record IsInStep (p from : ℕ) (recorded : N → Option (List ℕ)) (now next : List (Offer N))
-      (best : Option (List ℕ)) : Type 0 where
+  pub record IsInStep (p from : ℕ) (recorded : N → Option (List ℕ))
+      (now next : List (PendingNode N)) (best : Option (List ℕ)) : Type 0 where
     -- each way is a start alone, or a recorded way and one arrow
     pub grown : (n : N) (w : List ℕ) → recorded n ≡ Some w
         → IsGrown N step is_end IsStart recorded best n w

@@ -8,10 +8,10 @@ use Rattle.regex_lite_engine.specs.Graph.Parts.{IsOwnPart, row_of}
 use Rattle.regex_lite_engine.specs.Graph.Places.{Place, reading_of}
 use Rattle.regex_lite_engine.specs.Graph.Renumbered.{arrows_of}
 use Rattle.regex_lite_engine.specs.Pikevm.Searching.{IsBetween}
-use Rattle.regex_lite_engine.specs.Search.Standing.{IsHere}
+use Rattle.regex_lite_engine.specs.Search.Here.{IsHere}
 use Rattle.regex_lite_engine.specs.Search.Starts.{AreDeadAt, PassesTo}
 use Rattle.regex_lite_engine.specs.Pikevm.Machine.{Thread}
-use Rattle.regex_lite_engine.specs.Pikevm.Turns.{best_of, IsComing, IsComingTo, EndsAt}
+use Rattle.regex_lite_engine.specs.Pikevm.Stepping.{best_of, IsComing, IsComingTo, EndsAt}
 use Rattle.regex_lite_engine.specs.Search.NumberedOutcomes.{Best}
 
 -- A search at position p continues here: without thread and match, it skips positions at which no

@@ -5,31 +5,33 @@ use Rattle.regex_lite_engine.specs.declared.search.here.Here.{Here}
 use Rattle.regex_lite_engine.specs.declared.search.patterns.Start.{Start}
 use Rattle.regex_lite_engine.specs.declared.pikevm.cache.Cache.{Cache}
 use Rattle.regex_lite_engine.specs.Graph.Parts.{row_of}
-use Rattle.regex_lite_engine.specs.Graph.Places.{Place, kept_back_of, reading_of}
+use Rattle.regex_lite_engine.specs.Graph.Places.{Place, reading_of, stack_bound_of}
 use Rattle.regex_lite_engine.specs.Graph.Renumbered.{arrows_of}
 use Rattle.regex_lite_engine.specs.Graph.StoredList.{StoredList, table_of_list}
-use Rattle.regex_lite_engine.specs.Pikevm.Again.{AreAlike, all_retold, state_retold, best_again}
-use Rattle.regex_lite_engine.specs.Search.Beginnings.{Told, TellsStart}
+use Rattle.regex_lite_engine.specs.Pikevm.Again.{AreAlike, all_relabelled, state_relabelled}
+use Rattle.regex_lite_engine.specs.Pikevm.Again.{best_again}
+use Rattle.regex_lite_engine.specs.Search.ThreadStarts.{Reported, TellsStart}
 use Rattle.regex_lite_engine.specs.Pikevm.Machine.{Thread}
-use Rattle.regex_lite_engine.specs.Pikevm.Room.{KeepsPosition, ThreadsBelow, due_tries, due_entries}
+use Rattle.regex_lite_engine.specs.Pikevm.Capacity.{KeepsPosition, ThreadsBelow, due_tries}
+use Rattle.regex_lite_engine.specs.Pikevm.Capacity.{due_entries}
 use Rattle.regex_lite_engine.specs.Search.Counting.{IsCountable}
-use Rattle.regex_lite_engine.specs.Search.Standing.{IsHere}
-use Rattle.regex_lite_engine.specs.Pikevm.Turns.{best_of, with_starts}
+use Rattle.regex_lite_engine.specs.Search.Here.{IsHere}
+use Rattle.regex_lite_engine.specs.Pikevm.Stepping.{best_of, with_starts}
 use Rattle.regex_lite_engine.specs.Search.Starts.{AreStartsAt}
-use Rattle.regex_lite_engine.specs.Pikevm.Turns.{IsComing, StepsAt, StepsTo, IsReady}
+use Rattle.regex_lite_engine.specs.Pikevm.Stepping.{IsComing, StepsAt, StepsTo, IsReady}
 use Rattle.regex_lite_engine.specs.Pikevm.Walking.{SearchAt}
 use Rattle.regex_lite_engine.specs.Search.NumberedOutcomes.{Best}
 
 -- the threads that are followed at a position: its threads, and then its own starts
-abbrev pub ways_at : {S : Type 0} → List Start → (told : ℕ → Told) → Cache S → List Thread
-ways_at starts told cache =
-    with_starts starts told (best_of cache.best) (length cache.walk.memory.row)
+abbrev pub ways_at : {S : Type 0} → List Start → (reported : ℕ → Reported) → Cache S → List Thread
+ways_at starts reported cache =
+    with_starts starts reported (best_of cache.best) (length cache.walk.memory.row)
     cache.walk.memory.threads
 
 -- the match was complete at this position, or is the one of before
-abbrev pub IsHit : (hit : Bool) → (before after : Best) → Type 0
-IsHit true before after = after ≡ None → ⊥
-IsHit false before after = after ≡ before
+abbrev pub IsMatchFlag : (match_flag : Bool) → (before after : Best) → Type 0
+IsMatchFlag true before after = after ≡ None → ⊥
+IsMatchFlag false before after = after ≡ before
 
 module _ (table : List (Place ℕ)) where
   -- the search is between two positions
@@ -39,7 +41,7 @@ module _ (table : List (Place ℕ)) where
   -- the search is at a position, before these threads are followed
   pub record IsPlaced {S : Type 0} (ways : List Thread) (cache : Cache S) : Type 0 where
     pub stack_empty : cache.walk.memory.frames ≡ []
-    pub stack_room : kept_back_of table < length table
+    pub stack_room : stack_bound_of table < length table
     pub below : ThreadsBelow (length table) cache.walk.memory.threads
     pub best_width : length cache.best.row ≡ length cache.walk.memory.row
     pub budget : due_tries table cache.walk + length ways < 2 ^ 127
@@ -58,30 +60,30 @@ module _ (table : List (Place ℕ)) where
   -- a search for all matches would follow these threads in the same way at every position with the
   -- same neighbours, whatever is kept of their starts
   abbrev pub FollowsAgain : {S : Type 0} → Here → (ways : List Thread) → Cache S → Cache S
-      → (hit : Bool) → Type 0
-  FollowsAgain here ways cache cache' hit =
-      (tell : Told → Told) (there : Here) (best : Best) (at : SearchAt) → at.whole ≡ false
+      → (match_flag : Bool) → Type 0
+  FollowsAgain here ways cache cache' match_flag =
+      (tell : Reported → Reported) (there : Here) (best : Best) (at : SearchAt) → at.whole ≡ false
       → AreAlike table at.entries here there
-      → StepsAt table at there (state_retold tell cache.walk.memory) (all_retold tell ways) best
-      (state_retold tell cache'.walk.memory) []
-      (best_again tell there.at hit (best_of cache'.best) best)
+      → StepsAt table at there (state_relabelled tell cache.walk.memory) (all_relabelled tell ways)
+      best (state_relabelled tell cache'.walk.memory) []
+      (best_again tell there.at match_flag (best_of cache'.best) best)
 
   -- a transition holds at every position with the same neighbours at which the same starts suffice,
   -- as long as there is a match in both searches or in neither
-  abbrev pub TurnsAgain : {S : Type 0} → List Start → Here → (told : ℕ → Told) → Cache S → Cache S
-      → (hit : Bool) → Type 0
-  TurnsAgain starts here told cache cache' hit =
-      (tell : Told → Told) (there : Here) (best : Best)
-      → ((number : ℕ) → TellsStart (tell (told number)) there.at number)
+  abbrev pub StepsAgain : {S : Type 0} → List Start → Here → (reported : ℕ → Reported) → Cache S
+      → Cache S → (match_flag : Bool) → Type 0
+  StepsAgain starts here reported cache cache' match_flag =
+      (tell : Reported → Reported) (there : Here) (best : Best)
+      → ((number : ℕ) → TellsStart (tell (reported number)) there.at number)
       → (best ≡ None → best_of cache.best ≡ None) → (best_of cache.best ≡ None → best ≡ None)
       → (haystack : Text) (entries : List ℕ) (p first last : ℕ)
       → AreAlike table entries here there → IsHere haystack p there
       → first ≤ p → p ≤ last → AreStartsAt table haystack entries p starts
-      → IsComing table haystack entries first last p (all_retold tell cache.walk.memory.threads)
+      → IsComing table haystack entries first last p (all_relabelled tell cache.walk.memory.threads)
       best
       → IsComing table haystack entries first last (p + 1)
-      (all_retold tell cache'.walk.memory.threads)
-      (best_again tell there.at hit (best_of cache'.best) best)
+      (all_relabelled tell cache'.walk.memory.threads)
+      (best_again tell there.at match_flag (best_of cache'.best) best)
 
   -- the cost of a position is within the bounds of this part of the table and this many starts
   pub record SpendsWithin {S : Type 0} (low len starts : ℕ) (cache cache' : Cache S) : Type 0 where

@@ -8,10 +8,10 @@ use Rattle.regex_lite_engine.specs.declared.pikevm.cache.Cache.{Cache}
 use Rattle.regex_lite_engine.specs.Graph.Places.{Place}
 use Rattle.regex_lite_engine.specs.Pikevm.Machine.{Thread}
 use Rattle.regex_lite_engine.specs.Pikevm.Passing.{IsUnderWay}
-use Rattle.regex_lite_engine.specs.Pikevm.Turns.{best_of, IsComing, EndsAt}
+use Rattle.regex_lite_engine.specs.Pikevm.Stepping.{best_of, IsComing, EndsAt}
 use Rattle.regex_lite_engine.specs.Search.NumberedOutcomes.{Best}
 use Rattle.regex_lite_engine.specs.Search.Offsets.{offset}
-use Rattle.regex_lite_engine.specs.Search.Standing.{IsHere}
+use Rattle.regex_lite_engine.specs.Search.Here.{IsHere}
 
 module _ (table : List (Place ℕ)) (haystack : Text) (entries : List ℕ) (first : ℕ) where
   -- no match was complete before position p, and if there is a match it ends at p

@@ -9,21 +9,21 @@ use Rattle.regex_lite_engine.specs.Search.NumberedAnswer.{place_with, numbered_s
 use Rattle.regex_lite_engine.specs.Search.NumberedAnswer.{is_wanted_end}
 use Rattle.regex_lite_engine.specs.Search.NumberedList.{IsEntry, StartsOf}
 use Rattle.regex_lite_engine.specs.Search.Offsets.{offset, HasSlots}
-use Rattle.regex_lite_engine.specs.Search.Beginnings.{Told, TellsStart}
+use Rattle.regex_lite_engine.specs.Search.ThreadStarts.{Reported, TellsStart}
 use Rattle.regex_lite_engine.specs.Pikevm.Machine.{Job, explore, restore, Thread, State}
 use Rattle.regex_lite_engine.specs.Search.Rows.{Row}
 use Rattle.regex_lite_engine.specs.Pikevm.InStep.{IsInStep}
 use Rattle.regex_lite_engine.specs.Search.NumberedOutcomes.{Best}
-use Rattle.regex_lite_engine.specs.Search.Offers.{Offer, Node}
+use Rattle.regex_lite_engine.specs.Search.Pending.{PendingNode, Node}
 
 module _ (table : List (Place ℕ)) (haystack : Text) where
   module _ (entries : List ℕ) where
-    -- the way leads to the node from the entry of a pattern, `told` agrees with its start, and the
-    -- row has what it marks; the way begins with the start's position and the pattern's number
-    abbrev pub WayTold : (told : Told) → Row → Node → (way : List ℕ) → Type 0
-    WayTold told row node way =
+    -- the way leads to the node from the entry of a pattern, `reported` agrees with its start, and
+    -- the row has what it marks; the way begins with the start's position and the pattern's number
+    abbrev pub WayReported : (reported : Reported) → Row → Node → (way : List ℕ) → Type 0
+    WayReported reported row node way =
         (from : ℕ) × (number : ℕ) × (entry : ℕ) × (arrows : List ℕ)
-        × TellsStart told (offset haystack from) number × IsEntry entries number entry
+        × TellsStart reported (offset haystack from) number × IsEntry entries number entry
         × (way ≡ from ∷ (number ∷ arrows))
         × Leads Node (numbered_step table haystack) (entry, from) arrows node
         × HasSlots haystack row
@@ -31,21 +31,22 @@ module _ (table : List (Place ℕ)) (haystack : Text) where
 
     -- the frames hold the offers at position p, the first on top; the row of each is the row when
     -- its frame is popped
-    abbrev pub FramesHold : (p : ℕ) → (told : Told) → Row → List Job → List (Offer Node) → Type 0
-    FramesHold p told row [] offers = offers ≡ []
-    FramesHold p told row (explore place ∷ frames) offers =
-        (way : List ℕ) × (rest : List (Offer Node)) × (offers ≡ ((place, p), way) ∷ rest)
-        × WayTold told row (place, p) way × FramesHold p told row frames rest
-    FramesHold p told row (restore slot old ∷ frames) offers =
-        FramesHold p told (slice_set row slot old) frames offers
+    abbrev pub FramesHold : (p : ℕ) → (reported : Reported) → Row → List Job → List
+        (PendingNode Node) → Type 0
+    FramesHold p reported row [] pending = pending ≡ []
+    FramesHold p reported row (explore place ∷ frames) pending =
+        (way : List ℕ) × (rest : List (PendingNode Node)) × (pending ≡ ((place, p), way) ∷ rest)
+        × WayReported reported row (place, p) way × FramesHold p reported row frames rest
+    FramesHold p reported row (restore slot old ∷ frames) pending =
+        FramesHold p reported (slice_set row slot old) frames pending
 
     -- the threads hold the offers at position p, one each
-    abbrev pub ThreadsHold : (p : ℕ) → List Thread → List (Offer Node) → Type 0
+    abbrev pub ThreadsHold : (p : ℕ) → List Thread → List (PendingNode Node) → Type 0
     ThreadsHold p [] [] = Unit {0}
-    ThreadsHold p (thread ∷ threads) (offer ∷ offers) =
-        (offer.0 ≡ (thread.0, p)) × WayTold thread.1 thread.2 offer.0 offer.1
-        × ThreadsHold p threads offers
-    ThreadsHold p [] (offer ∷ offers) = ⊥
+    ThreadsHold p (thread ∷ threads) (pending_node ∷ pending) =
+        (pending_node.0 ≡ (thread.0, p)) × WayReported thread.1 thread.2 pending_node.0
+        pending_node.1 × ThreadsHold p threads pending
+    ThreadsHold p [] (pending_node ∷ pending) = ⊥
     ThreadsHold p (thread ∷ threads) [] = ⊥
 
     -- the best match is that of the way
@@ -54,11 +55,11 @@ module _ (table : List (Place ℕ)) (haystack : Text) where
     BestHolds (Some best) way =
         (own : List ℕ) × (way ≡ Some own)
         × ((place : ℕ) × (end : ℕ) × (best.1 ≡ offset haystack end)
-        × IsTrue (is_end table haystack (place, end)) × WayTold best.0 best.2 (place, end) own)
+        × IsTrue (is_end table haystack (place, end)) × WayReported best.0 best.2 (place, end) own)
 
     module _ (whole : Bool) (first last : ℕ) where
       abbrev pub InStep : (p from : ℕ) → (recorded : Node → Option (List ℕ))
-          → (offers next : List (Offer Node)) → (way : Option (List ℕ)) → Type 0
+          → (pending next : List (PendingNode Node)) → (way : Option (List ℕ)) → Type 0
       InStep =
           IsInStep Node (numbered_step table haystack) (StartsOf entries first last)
           (is_wanted_end table haystack whole) (λ node. node.1)
@@ -75,14 +76,14 @@ pub record SearchAt : Type 0 where
   pub p : ℕ
   pub from : ℕ
 
--- The frames belong to a thread of whose start `told` is kept. The frames are pending, and then
+-- The frames belong to a thread of whose start `reported` is kept. The frames are pending, and then
 -- these ways; so far the threads of the next position are those of `next`
-pub record IsWalking (table : List (Place ℕ)) (at : SearchAt) (state : State) (told : Told)
+pub record IsWalking (table : List (Place ℕ)) (at : SearchAt) (state : State) (reported : Reported)
     (ways : List Thread) (best : Best) : Type 0 where
   pub recorded : Node → Option (List ℕ)
-  pub under : List (Offer Node)
-  pub later : List (Offer Node)
-  pub coming : List (Offer Node)
+  pub under : List (PendingNode Node)
+  pub later : List (PendingNode Node)
+  pub coming : List (PendingNode Node)
   pub way : Option (List ℕ)
   pub in_step : InStep table at.haystack at.entries at.whole at.first at.last at.p at.from
       recorded (under ++ later) coming way
@@ -91,7 +92,8 @@ pub record IsWalking (table : List (Place ℕ)) (at : SearchAt) (state : State) 
       → slice_index_or state.entered place false ≡ true
   pub met : (place : ℕ) → slice_index_or state.entered place false ≡ true
       → (own : List ℕ) × (recorded (place, at.p) ≡ Some own)
-  pub frames_hold : FramesHold table at.haystack at.entries at.p told state.row state.frames under
+  pub frames_hold : FramesHold table at.haystack at.entries at.p reported state.row state.frames
+      under
   pub ways_hold : ThreadsHold table at.haystack at.entries at.p ways later
   pub coming_hold : ThreadsHold table at.haystack at.entries (suc at.p) state.next coming
   pub best_holds : BestHolds table at.haystack at.entries best way

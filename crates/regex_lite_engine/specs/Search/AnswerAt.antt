@@ -55,5 +55,5 @@ pub record IsFoundAtInList (whole : Bool) (trees : List Tree) (haystack : Text) 
 abbrev pub IsAnswerAtOfList : (whole : Bool) → List Tree → Text → (s : ℕ) → Option (ℕ × Found)
     → Type 0
 IsAnswerAtOfList whole trees haystack s None = AnyMatchesAt whole trees haystack s → ⊥
-IsAnswerAtOfList whole trees haystack s (Some told) =
-    IsFoundAtInList whole trees haystack s told.0 told.1
+IsAnswerAtOfList whole trees haystack s (Some reported) =
+    IsFoundAtInList whole trees haystack s reported.0 reported.1

@@ -28,11 +28,12 @@ pub record IsFoundInList (trees : List Tree) (haystack : Text) (s number : ℕ) 
 -- the answer of a search from position s on: the number of a pattern, and what was found of it
 abbrev pub IsAnswerOfList : List Tree → Text → (s : ℕ) → Option (ℕ × Found) → Type 0
 IsAnswerOfList trees haystack s None = AnyMatchesFrom trees haystack s → ⊥
-IsAnswerOfList trees haystack s (Some told) = IsFoundInList trees haystack s told.0 told.1
+IsAnswerOfList trees haystack s (Some reported) = IsFoundInList trees haystack s reported.0
+    reported.1
 
 -- whether each pattern, in the order of the numbers, matches from a position at or after s
-pub record TellsWhich (trees : List Tree) (haystack : Text) (s : ℕ) (told : List Bool)
+pub record TellsWhich (trees : List Tree) (haystack : Text) (s : ℕ) (reported : List Bool)
     : Type 0 where
-  pub all : length told ≡ length trees
+  pub all : length reported ≡ length trees
   pub each : (number : ℕ) (tree : Tree) → HasTree trees number tree
-      → IsTrue (slice_index_or told number false) ↔ HasMatchFrom tree haystack s
+      → IsTrue (slice_index_or reported number false) ↔ HasMatchFrom tree haystack s

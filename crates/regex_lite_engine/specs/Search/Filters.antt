@@ -9,12 +9,12 @@ use Rattle.regex_lite_engine.specs.declared.search.pattern_filter.PatternFilter.
   Literal,
   Whole,
 }
-use Rattle.regex_lite_engine.specs.Search.Prefixes.{prefix_heads}
+use Rattle.regex_lite_engine.specs.Search.Prefixes.{sets_of_prefix}
 
 -- each match begins with these two characters
 abbrev pub prefix_facts : (first second : ℕ) → StartFacts
 prefix_facts first second = record {
-  heads = prefix_heads first second;
+  prefixes = sets_of_prefix first second;
   words = None;
   are_all = false;
   needed = None;

@@ -40,8 +40,8 @@ module _ (table : List (Place ℕ)) (haystack : Text) (entries : List ℕ) where
     abbrev pub IsWantedAnswerTo : (s last : ℕ) → Option (ℕ × Found) → Type 0
     IsWantedAnswerTo s last None =
         (i k : ℕ) (way : List ℕ) (q j : ℕ) → i ≤ last → IsWantedOfAny s i k way q j → ⊥
-    IsWantedAnswerTo s last (Some told) =
-        (told.1.start ≤ last) × IsWantedFoundOf s told.0 told.1
+    IsWantedAnswerTo s last (Some reported) =
+        (reported.1.start ≤ last) × IsWantedFoundOf s reported.0 reported.1
 
   -- the definitions above if all matches are wanted
   abbrev pub IsMatchOfAny : (s i number : ℕ) → (way : List ℕ) → (q j : ℕ) → Type 0
@@ -57,7 +57,7 @@ module _ (table : List (Place ℕ)) (haystack : Text) (entries : List ℕ) where
   abbrev pub IsNumberedAnswerOf : (s : ℕ) → Option (ℕ × Found) → Type 0
   IsNumberedAnswerOf s None =
       (i k : ℕ) (way : List ℕ) (q j : ℕ) → IsMatchOfAny s i k way q j → ⊥
-  IsNumberedAnswerOf s (Some told) = IsNumberedFoundOf s told.0 told.1
+  IsNumberedAnswerOf s (Some reported) = IsNumberedFoundOf s reported.0 reported.1
 
   -- the least position at which a match of any pattern ends that starts at or after s
   pub record IsNumberedShortestOf (s end : ℕ) : Type 0 where

@@ -1,11 +1,11 @@
 -- What a search over a table of numbered places returns, as offsets.
 use Rattle.std.specs.Prelude.{◌≡◌, ◌≤◌, ℕ, Bool, true, false, List, Option, Some, None}
 use Rattle.regex_lite_syntax.specs.Text.{Text}
-use Rattle.regex_lite_engine.specs.declared.pikevm.beginning.Origin.{Origin}
+use Rattle.regex_lite_engine.specs.declared.pikevm.thread_start.MatchStart.{MatchStart}
 use Rattle.regex_lite_engine.specs.declared.search.outcome.Outcome.{Outcome}
 use Rattle.regex_lite_engine.specs.Graph.Places.{Place}
 use Rattle.regex_lite_engine.specs.Search.Answer.{Found}
-use Rattle.regex_lite_engine.specs.Search.Beginnings.{Told, IsTold, TellsStart}
+use Rattle.regex_lite_engine.specs.Search.ThreadStarts.{Reported, IsReported, TellsStart}
 use Rattle.regex_lite_engine.specs.Search.NumberedAnswer.{IsNumberedAnswer}
 use Rattle.regex_lite_engine.specs.Search.NumberedList.{IsNumberedAnswerOf, IsWantedOfAny}
 use Rattle.regex_lite_engine.specs.Search.NumberedList.{IsNumberedShortestOf, IsWantedAnswerTo}
@@ -14,7 +14,7 @@ use Rattle.regex_lite_engine.specs.Search.Rows.{Row}
 
 -- the best match so far: what is kept of its start, the offset of its end, and its row
 abbrev pub Best : Type 0
-Best = Option (Told × ℕ × Row)
+Best = Option (Reported × ℕ × Row)
 
 -- the match with this span and row
 abbrev pub best_at : {X : Type 0} → Option (X × ℕ) → Row → Option (X × ℕ × Row)
@@ -22,9 +22,9 @@ best_at None row = None
 best_at (Some found) row = Some (found.0, found.1, row)
 
 -- the match that an outcome has
-abbrev pub match_told : Option Outcome → Option (ℕ × ℕ × Row)
-match_told None = None
-match_told (Some outcome) = Some (outcome.start, outcome.end, outcome.slots.items)
+abbrev pub match_reported : Option Outcome → Option (ℕ × ℕ × Row)
+match_reported None = None
+match_reported (Some outcome) = Some (outcome.start, outcome.end, outcome.slots.items)
 
 -- the match, if the start is kept
 abbrev pub with_start_kept : Option (ℕ × ℕ × Row) → Best
@@ -33,29 +33,30 @@ with_start_kept (Some found) =
     Some (record { at = Some found.0; number = None }, found.1, found.2)
 
 -- the match that an outcome of several patterns has, with the pattern's number
-abbrev pub numbered_told : Option (ℕ × Outcome) → Option (ℕ × ℕ × ℕ × Row)
-numbered_told None = None
-numbered_told (Some told) = Some (told.0, told.1.start, told.1.end, told.1.slots.items)
+abbrev pub numbered_reported : Option (ℕ × Outcome) → Option (ℕ × ℕ × ℕ × Row)
+numbered_reported None = None
+numbered_reported (Some reported) = Some
+    (reported.0, reported.1.start, reported.1.end, reported.1.slots.items)
 
 -- the match with this span, of the pattern with this number, and with this row
 abbrev pub numbered_at : Option (ℕ × (ℕ × ℕ)) → Row → Option (ℕ × ℕ × ℕ × Row)
 numbered_at None row = None
-numbered_at (Some told) row = Some (told.0, told.1.0, told.1.1, row)
+numbered_at (Some reported) row = Some (reported.0, reported.1.0, reported.1.1, row)
 
 -- the match, if the number and the start are kept
-abbrev pub with_origin_kept : Option (ℕ × ℕ × ℕ × Row) → Best
-with_origin_kept None = None
-with_origin_kept (Some (number, start, end, row)) =
+abbrev pub with_match_start_kept : Option (ℕ × ℕ × ℕ × Row) → Best
+with_match_start_kept None = None
+with_match_start_kept (Some (number, start, end, row)) =
     Some (record { at = Some start; number = Some number }, end, row)
 
 -- the match with this origin, this end and this row
-abbrev pub best_kept : Option (Origin × ℕ) → Row → Best
+abbrev pub best_kept : Option (MatchStart × ℕ) → Row → Best
 best_kept None row = None
 best_kept (Some found) row =
     Some (record { at = Some found.0.at; number = Some found.0.number }, found.1, row)
 
 -- the span of a match
-abbrev pub span_of : Option (Origin × ℕ) → Option (ℕ × ℕ)
+abbrev pub span_of : Option (MatchStart × ℕ) → Option (ℕ × ℕ)
 span_of None = None
 span_of (Some found) = Some (found.0.at, found.1)
 
@@ -64,7 +65,7 @@ abbrev pub IsBestOutcome : List (Place ℕ) → Text → (start s : ℕ) → Bes
 IsBestOutcome table haystack start s None = IsNumberedAnswer table haystack start s None
 IsBestOutcome table haystack start s (Some best) =
     (found : Found) × IsNumberedAnswer table haystack start s (Some found)
-    × IsTold best.0.at (offset haystack found.start) × (best.1 ≡ offset haystack found.end)
+    × IsReported best.0.at (offset haystack found.start) × (best.1 ≡ offset haystack found.end)
     × HasSlots haystack best.2 found.marks
 
 -- the best match has the offsets of the answer to a search for several patterns

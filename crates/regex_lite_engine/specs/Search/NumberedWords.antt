@@ -7,16 +7,16 @@ use Rattle.regex_lite_syntax.specs.Prefilter.Words.{AnyStandsAt}
 use Rattle.regex_lite_engine.specs.Graph.Places.{Place}
 use Rattle.regex_lite_engine.specs.Search.NumberedList.{IsMatchOfAny}
 use Rattle.regex_lite_engine.specs.Search.NumberedOutcomes.{IsBestOutcomeOf, numbered_at}
-use Rattle.regex_lite_engine.specs.Search.NumberedOutcomes.{with_origin_kept}
+use Rattle.regex_lite_engine.specs.Search.NumberedOutcomes.{with_match_start_kept}
 use Rattle.regex_lite_engine.specs.Search.Offsets.{position_at}
 
 -- from each position a search for the patterns with these entries finds the next of the words
 abbrev pub AreAnsweredBy : List (Place ℕ) → (entries : List ℕ) → NumberedWords → Type 0
 AreAnsweredBy table entries words =
-    (bytes : List ℕ) (from : ℕ) (told : Option (ℕ × (ℕ × ℕ))) → IsUtf8 bytes
-    → IsCharBoundary bytes from → IsNextOfPatterns words bytes from told
+    (bytes : List ℕ) (from : ℕ) (reported : Option (ℕ × (ℕ × ℕ))) → IsUtf8 bytes
+    → IsCharBoundary bytes from → IsNextOfPatterns words bytes from reported
     → IsBestOutcomeOf table (chars bytes) entries (position_at bytes from)
-    (with_origin_kept (numbered_at told []))
+    (with_match_start_kept (numbered_at reported []))
 
 -- the pattern with this number has a match from a position at or after s
 abbrev pub HasMatchOfNumber : List (Place ℕ) → Text → (entries : List ℕ) → (s number : ℕ) → Type 0

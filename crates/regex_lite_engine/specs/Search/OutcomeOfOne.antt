@@ -4,9 +4,9 @@ use Rattle.std.specs.Prelude.{chars, is_some, length}
 use Rattle.regex_lite_engine.specs.declared.search.outcome.Outcome.{Outcome}
 use Rattle.regex_lite_engine.specs.Graph.Places.{Place}
 use Rattle.regex_lite_engine.specs.Graph.Renumbered.{arrows_of}
-use Rattle.regex_lite_engine.specs.Search.Beginnings.{untold}
+use Rattle.regex_lite_engine.specs.Search.ThreadStarts.{no_start}
 use Rattle.regex_lite_engine.specs.Search.Bounds.{StepCounts, IsBounded}
-use Rattle.regex_lite_engine.specs.Search.NumberedOutcomes.{Best, IsNumberedEndOf, match_told}
+use Rattle.regex_lite_engine.specs.Search.NumberedOutcomes.{Best, IsNumberedEndOf, match_reported}
 use Rattle.regex_lite_engine.specs.Search.NumberedOutcomes.{IsAnyTo, IsWantedOutcomeTo}
 use Rattle.regex_lite_engine.specs.Search.NumberedOutcomes.{IsNumberedOutcome, with_start_kept}
 use Rattle.regex_lite_engine.specs.Search.Offsets.{position_at}
@@ -21,11 +21,11 @@ IsWithinBounds table haystack start steps =
 
 -- what a search returns: the match that it is for, with this many slots, and the cost
 pub record TellsOfSearch (IsSought : Option (ℕ × ℕ × Row) → Type 0) (table : List (Place ℕ))
-    (haystack : List ℕ) (start width : ℕ) (told : Option Outcome × StepCounts) : Type 0 where
-  pub found : IsSought (match_told told.0)
-  pub slots : IfSome told.0 (λ outcome. length outcome.slots.items ≡ width)
-  pub cost : IsWithinBounds table haystack start told.1
-  pub entered : IfSome told.0 (λ _. 0 < told.1.entered)
+    (haystack : List ℕ) (start width : ℕ) (reported : Option Outcome × StepCounts) : Type 0 where
+  pub found : IsSought (match_reported reported.0)
+  pub slots : IfSome reported.0 (λ outcome. length outcome.slots.items ≡ width)
+  pub cost : IsWithinBounds table haystack start reported.1
+  pub entered : IfSome reported.0 (λ _. 0 < reported.1.entered)
 
 -- the match of the pattern with this entry
 abbrev pub TellsOfOne : (table : List (Place ℕ)) → (entry : ℕ) → (haystack : List ℕ)
@@ -40,29 +40,29 @@ abbrev pub TellsOfOneAt : (table : List (Place ℕ)) → (entry : ℕ) → (whol
     → (haystack : List ℕ) → (start width : ℕ) → Option Outcome × StepCounts → Type 0
 TellsOfOneAt table entry whole haystack start =
     TellsOfSearch
-    (λ told. IsWantedOutcomeTo table (chars haystack) (entry ∷ []) whole
-    (position_at haystack start) (position_at haystack start) (with_start_kept told))
+    (λ reported. IsWantedOutcomeTo table (chars haystack) (entry ∷ []) whole
+    (position_at haystack start) (position_at haystack start) (with_start_kept reported))
     table haystack start
 
 -- whether the pattern with this entry has such a match
 pub record TellsAnyOfOneAt (table : List (Place ℕ)) (entry : ℕ) (whole : Bool)
-    (haystack : List ℕ) (start : ℕ) (told : Bool × StepCounts) : Type 0 where
+    (haystack : List ℕ) (start : ℕ) (reported : Bool × StepCounts) : Type 0 where
   pub best : Best
   pub found : IsAnyTo table (chars haystack) (entry ∷ []) whole (position_at haystack start)
       (position_at haystack start) best
-  pub is_some : told.0 ≡ is_some best
-  pub cost : IsWithinBounds table haystack start told.1
-  pub entered : IsTrue told.0 → 0 < told.1.entered
+  pub is_some : reported.0 ≡ is_some best
+  pub cost : IsWithinBounds table haystack start reported.1
+  pub entered : IsTrue reported.0 → 0 < reported.1.entered
 
 -- a match with this end, of which nothing else is known
 abbrev pub ending_at : Option ℕ → Best
 ending_at None = None
-ending_at (Some end) = Some (untold, end, [])
+ending_at (Some end) = Some (no_start, end, [])
 
 -- the least end of any match of the pattern with this entry
 pub record TellsEndOfOne (table : List (Place ℕ)) (entry : ℕ) (haystack : List ℕ) (start : ℕ)
-    (told : Option ℕ × StepCounts) : Type 0 where
+    (reported : Option ℕ × StepCounts) : Type 0 where
   pub found : IsNumberedEndOf table (chars haystack) (entry ∷ []) (position_at haystack start)
-      (ending_at told.0)
-  pub cost : IsWithinBounds table haystack start told.1
-  pub entered : IfSome told.0 (λ _. 0 < told.1.entered)
+      (ending_at reported.0)
+  pub cost : IsWithinBounds table haystack start reported.1
+  pub entered : IfSome reported.0 (λ _. 0 < reported.1.entered)

@@ -70,9 +70,9 @@ HasCost tree haystack start steps =
 abbrev pub IsNumberedSpanOf : (Answers : Option (ℕ × Found) → Type 0) → (haystack : List ℕ)
     → (slots : List (Option ℕ)) → Option (ℕ × (ℕ × ℕ)) → Type 0
 IsNumberedSpanOf Answers haystack slots None = Answers None
-IsNumberedSpanOf Answers haystack slots (Some told) =
-    (found : Found) × Answers (Some (told.0, found))
-    × TellsFound (chars haystack) found told.1 slots
+IsNumberedSpanOf Answers haystack slots (Some reported) =
+    (found : Found) × Answers (Some (reported.0, found))
+    × TellsFound (chars haystack) found reported.1 slots
 
 -- the number, the span and the slots are those of the answer from an offset on
 abbrev pub IsSpanOutcomeOfList : List Tree → (haystack : List ℕ) → (start : ℕ)
@@ -91,18 +91,18 @@ IsSpanOutcomeAtOfList whole trees haystack start =
 abbrev pub IsOutcomeOfList : List Tree → (haystack : List ℕ) → (start : ℕ) → Option (ℕ × Outcome)
     → Type 0
 IsOutcomeOfList trees haystack start None = IsSpanOutcomeOfList trees haystack start [] None
-IsOutcomeOfList trees haystack start (Some told) =
-    IsSpanOutcomeOfList trees haystack start told.1.slots.items
-    (Some (told.0, (told.1.start, told.1.end)))
+IsOutcomeOfList trees haystack start (Some reported) =
+    IsSpanOutcomeOfList trees haystack start reported.1.slots.items
+    (Some (reported.0, (reported.1.start, reported.1.end)))
 
 -- the outcome of an anchored search for several patterns is that of its answer
 abbrev pub IsOutcomeAtOfList : (whole : Bool) → List Tree → (haystack : List ℕ) → (start : ℕ)
     → Option (ℕ × Outcome) → Type 0
 IsOutcomeAtOfList whole trees haystack start None =
     IsSpanOutcomeAtOfList whole trees haystack start [] None
-IsOutcomeAtOfList whole trees haystack start (Some told) =
-    IsSpanOutcomeAtOfList whole trees haystack start told.1.slots.items
-    (Some (told.0, (told.1.start, told.1.end)))
+IsOutcomeAtOfList whole trees haystack start (Some reported) =
+    IsSpanOutcomeAtOfList whole trees haystack start reported.1.slots.items
+    (Some (reported.0, (reported.1.start, reported.1.end)))
 
 -- the cost of a search of the graph of these trees is within the bounds
 abbrev pub HasCostOfList : List Tree → (haystack : List ℕ) → (start : ℕ) → StepCounts → Type 0

@@ -6,16 +6,16 @@ use Rattle.std.specs.Prelude.{option_map}
 use Rattle.regex_lite_syntax.specs.Text.{Text, after}
 use Rattle.regex_lite_syntax.specs.Tree.{Tree}
 use Rattle.regex_lite_syntax.specs.Tree.Properties.{nullable}
-use Rattle.regex_lite_syntax.specs.declared.prefilter.list_heads.ListHeads.{ListHeads}
+use Rattle.regex_lite_syntax.specs.declared.prefilter.prefix_index.PrefixIndex.{PrefixIndex}
 use Rattle.regex_lite_engine.specs.declared.search.here.Here.{Here}
 use Rattle.regex_lite_engine.specs.declared.search.patterns.Start.{Start}
 use Rattle.regex_lite_engine.specs.Graph.Places.{Place}
 use Rattle.regex_lite_syntax.specs.Prefilter.StartFacts.{NeverStarts, StartFacts}
 use Rattle.regex_lite_syntax.specs.declared.prefilter.words.letter.Letter.{Letter}
 use Rattle.regex_lite_syntax.specs.Prefilter.WholeWords.{IsNextSpan}
-use Rattle.regex_lite_syntax.specs.Prefilter.ListHeads.{may_start_at, IsWalkable}
-use Rattle.regex_lite_syntax.specs.Prefilter.Starts.{MayBegin}
-use Rattle.regex_lite_syntax.specs.Prefilter.Thirds.{may_go_on}
+use Rattle.regex_lite_syntax.specs.Prefilter.PrefixIndex.{may_start_at, IsWalkable}
+use Rattle.regex_lite_syntax.specs.Prefilter.FirstSet.{MayBegin}
+use Rattle.regex_lite_syntax.specs.Prefilter.ThirdMasks.{may_go_on}
 use Rattle.regex_lite_engine.specs.Search.Explored.{IsDead}
 use Rattle.regex_lite_engine.specs.Search.NumberedAnswer.{numbered_step, is_end}
 use Rattle.regex_lite_engine.specs.Search.NumberedList.{IsEntry}
@@ -23,7 +23,7 @@ use Rattle.regex_lite_engine.specs.Search.NumberedOutcomes.{IsNumberedEndOf, IsN
 use Rattle.regex_lite_engine.specs.Search.NumberedOutcomes.{best_at}
 use Rattle.regex_lite_engine.specs.Search.Offsets.{position_at}
 use Rattle.regex_lite_engine.specs.Search.OutcomeOfOne.{ending_at}
-use Rattle.regex_lite_engine.specs.Search.Standing.{IsHere}
+use Rattle.regex_lite_engine.specs.Search.Here.{IsHere}
 
 module _ (table : List (Place ℕ)) where
   -- no match of the pattern with entry s can start at the position
@@ -139,19 +139,19 @@ SkipsTo Passed haystack p at =
 
 -- if the index of several patterns excludes a pattern, no way from its entry leads to a complete
 -- match
-pub record AreListHeadsOf (table : List (Place ℕ)) (entries : List ℕ) (heads : ListHeads)
+pub record IsPrefixIndexOf (table : List (Place ℕ)) (entries : List ℕ) (prefixes : PrefixIndex)
     : Type 0 where
-  pub count : heads.count ≡ length entries
-  pub walkable : IsWalkable heads
+  pub count : prefixes.count ≡ length entries
+  pub walkable : IsWalkable prefixes
   -- none of any pattern, if no pattern can begin
-  pub any : (haystack : Text) (p : ℕ) → (MayBegin heads.any haystack p → ⊥)
+  pub any : (haystack : Text) (p : ℕ) → (MayBegin prefixes.any haystack p → ⊥)
       → AreDeadAt table haystack entries p
   -- none of a pattern that may not start there
   pub each : (haystack : Text) (p number entry : ℕ) → IsEntry entries number entry
-      → may_start_at heads haystack p number ≡ false → IsDeadAt table haystack entry p
+      → may_start_at prefixes haystack p number ≡ false → IsDeadAt table haystack entry p
   -- none of a pattern that may not continue with the third character
   pub third : (haystack : Text) (p number entry : ℕ) → IsEntry entries number entry
-      → may_go_on heads.thirds (after haystack (suc (suc p))) number ≡ false
+      → may_go_on prefixes.third_masks (after haystack (suc (suc p))) number ≡ false
       → IsDeadAt table haystack entry p
 
 -- the pattern with this number, and the place where it is entered
@@ -172,8 +172,8 @@ pub record AreAllAtEnd (table : List (Place ℕ)) (entries numbers : List ℕ) :
 -- `reads` says for each tree whether all its matches read a character
 pub record TellReading (trees : List Tree) (reads : List Bool) : Type 0 where
   pub all : length reads ≡ length trees
-  pub each : (number : ℕ) (tree : Tree) (told : Bool) → slice_get trees number ≡ Some tree
-      → slice_get reads number ≡ Some told → told ≡ not (nullable tree)
+  pub each : (number : ℕ) (tree : Tree) (reported : Bool) → slice_get trees number ≡ Some tree
+      → slice_get reads number ≡ Some reported → reported ≡ not (nullable tree)
 
 -- patterns all of whose matches read a character don't match from the haystack's end
 pub record AreReading (table : List (Place ℕ)) (entries : List ℕ) (reads : List Bool) : Type 0 where

@@ -7,7 +7,7 @@ ghost use Rattle.regex_lite_syntax.specs.Text.{after, before};
 ghost use Rattle.regex_lite_syntax.specs.Tree.Looks.{holds_between};
 ghost use Rattle.regex_lite_engine.specs.Backtrack.Entering.{Enters, IsReadOn};
 ghost use Rattle.regex_lite_engine.specs.Backtrack.Machine.{completes, explore, onto};
-ghost use Rattle.regex_lite_engine.specs.Graph.Places.{kept_back_with};
+ghost use Rattle.regex_lite_engine.specs.Graph.Places.{stack_bound_with};
 ghost use Rattle.regex_lite_engine.specs.Graph.Stored.{place_of};
 ghost use Rattle.regex_lite_engine.specs.Search.Offsets.{position_at};
 
@@ -34,7 +34,7 @@ pub enum Continuation {
 pub fn enter(place: &Place, haystack: &str, at: usize, stack: &mut Stack) -> Continuation
     requires boundary { IsCharBoundary haystack.now at }
     requires room { length stack.old.frames
-        + kept_back_with (length stack.old.row) (place_of place.now) ≤ stack.old.room }
+        + stack_bound_with (length stack.old.row) (place_of place.now) ≤ stack.old.room }
     ensures entered { Enters (chars haystack.now) (position_at haystack.now at) at place.now
         stack.old (record stack.new { frames = onto result stack.new.frames })
         (completes result) }

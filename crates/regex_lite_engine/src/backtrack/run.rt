@@ -7,7 +7,7 @@ ghost use Rattle.regex_lite_engine.specs.Search.Bounds.{IsBounded, StaysCounted,
 ghost use Rattle.regex_lite_engine.specs.Search.Offsets.{position_at};
 ghost use Rattle.regex_lite_engine.specs.Search.NumberedOutcomes.{IsNumberedOutcome, best_at};
 ghost use Rattle.regex_lite_engine.specs.Search.Counting.{CanCount};
-ghost use Rattle.regex_lite_engine.specs.Search.Standing.{IsHere};
+ghost use Rattle.regex_lite_engine.specs.Search.Here.{IsHere};
 
 use crate::backtrack::walk::Backtracker;
 use crate::search::here::Here;

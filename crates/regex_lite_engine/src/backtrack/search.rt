@@ -3,7 +3,7 @@ ghost use Rattle.std.specs.Prelude.{◌≡◌, ◌<◌, IfOk, IfSome, IsCharBoun
 ghost use Rattle.regex_lite_engine.specs.Backtrack.Searching.{IsFresh};
 ghost use Rattle.regex_lite_engine.specs.Graph.Stored.{places_of};
 ghost use Rattle.regex_lite_engine.specs.Search.Counting.{IsCountable};
-ghost use Rattle.regex_lite_engine.specs.Search.NumberedOutcomes.{match_told, best_at};
+ghost use Rattle.regex_lite_engine.specs.Search.NumberedOutcomes.{match_reported, best_at};
 ghost use Rattle.regex_lite_engine.specs.Search.OutcomeOfOne.{TellsOfOne};
 
 use crate::backtrack::run::run;
@@ -62,8 +62,8 @@ fn walk_for(
     ensures countable { IfOk result (λ _. IsCountable (places_of table.now)) }
 {
     let offsets = (haystack.len() - start).checked_add(1).ok_or(AllocError)?;
-    let kept_back = table.kept_back(slots);
-    let room = kept_back.checked_mul(offsets).ok_or(AllocError)?;
+    let stack_bound = table.stack_bound(slots);
+    let room = stack_bound.checked_mul(offsets).ok_or(AllocError)?;
     let visited = Visited::none(alloc, table.places(), start, haystack.len())?;
     let stack = Stack::blank(alloc, room, slots)?;
     Ok(Backtracker {
@@ -75,7 +75,7 @@ fn walk_for(
 
 /// The match with these offsets, with the slots of the path that led there.
 fn outcome_of(found: Option<(usize, usize)>, stack: Stack) -> Option<Outcome>
-    ensures told { match_told result ≡ best_at found stack.row }
+    ensures reported { match_reported result ≡ best_at found stack.row }
     ensures slots { IfSome result
         (λ outcome. length outcome.slots.items ≡ length stack.row) }
 {

@@ -53,7 +53,7 @@ impl ShortSearcher {
             return Ok(None);
         }
         let room = table
-            .kept_back(slots)
+            .stack_bound(slots)
             .checked_mul(offsets)
             .ok_or(AllocError)?;
         let walk = Backtracker {

@@ -2,7 +2,7 @@
 //! stack.
 ghost use Rattle.std.specs.Prelude.{◌≡◌, ◌<◌, ◌+◌, [], ◌∷◌, IfSome, length, true, false};
 ghost use Rattle.regex_lite_engine.specs.Backtrack.Machine.{completes, end_at, explore, onto};
-ghost use Rattle.regex_lite_engine.specs.Backtrack.Room.{HasRoom, TakesFrame};
+ghost use Rattle.regex_lite_engine.specs.Backtrack.Capacity.{HasCapacity, TakesFrame};
 ghost use Rattle.regex_lite_engine.specs.Graph.Stored.{places_of};
 ghost use Rattle.regex_lite_engine.specs.Search.Bounds.{StaysCounted};
 
@@ -22,7 +22,7 @@ pub struct Backtracker {
 }
 
 impl Backtracker {
-    ghost use Rattle.regex_lite_engine.specs.Backtrack.Searching.{Explores, SlotsBelow, Unwinds};
+    ghost use Rattle.regex_lite_engine.specs.Backtrack.Searching.{Explores, Restores, SlotsBelow};
 
     /// Follows the paths from the start at this offset, the most preferred first. Returns the end
     /// of the first that is a match. If COUNTED, the steps are counted.
@@ -34,7 +34,7 @@ impl Backtracker {
         haystack: &str,
         start: usize,
     ) -> Option<usize>
-        requires room { HasRoom (places_of table.now) haystack.now self.old
+        requires room { HasCapacity (places_of table.now) haystack.now self.old
             (explore entry start ∷ []) }
         requires empty { self.old.stack.frames ≡ [] }
         ensures explored { Explores (places_of table.now) haystack.now entry start
@@ -64,7 +64,7 @@ impl Backtracker {
         place: u32,
         at: usize,
     ) -> Continuation
-        requires { HasRoom (places_of table.now) haystack.now self.old
+        requires { HasCapacity (places_of table.now) haystack.now self.old
             (explore place at ∷ self.old.stack.frames) }
         ensures taken { TakesFrame (places_of table.now) haystack.now self.old
             (explore place at ∷ self.old.stack.frames) self.new
@@ -87,7 +87,7 @@ impl Backtracker {
     #[inline(always)]
     fn go_back(&mut self) -> Option<(u32, usize)>
         requires { SlotsBelow (length self.old.stack.row) self.old.stack.frames }
-        ensures back { Unwinds self.old.stack.row self.old.stack.frames result
+        ensures back { Restores self.old.stack.row self.old.stack.frames result
             self.new.stack.row self.new.stack.frames }
         ensures same { self.new ≡ record self.old { stack = self.new.stack } }
         ensures row { length self.new.stack.row ≡ length self.old.stack.row }

@@ -13,9 +13,8 @@ ghost use Rattle.regex_lite_engine.specs.Graph.StoredList.{table_of_list};
 ghost use Rattle.regex_lite_engine.specs.Search.Filters.{facts_of, own_facts_of};
 ghost use Rattle.regex_lite_engine.specs.Search.NeededWords.{IsNeededByAny};
 ghost use Rattle.regex_lite_engine.specs.Search.NumberedWords.{AreAnsweredBy, IsEachAnsweredBy};
-ghost use Rattle.regex_lite_engine.specs.Search.Starts.{AreAllAtEnd, AreListHeadsOf};
-ghost use Rattle.regex_lite_engine.specs.Search.Starts.{DoWordsAnswer};
-ghost use Rattle.regex_lite_engine.specs.Search.Starts.{TellReading};
+ghost use Rattle.regex_lite_engine.specs.Search.Starts.{AreAllAtEnd, DoWordsAnswer};
+ghost use Rattle.regex_lite_engine.specs.Search.Starts.{IsPrefixIndexOf, TellReading};
 
 mod facts;
 
@@ -28,7 +27,7 @@ use crate::nfa::write::write_all;
 use crate::search::one_pattern::OnePattern;
 use crate::search::own_filter::OwnFilter;
 use facts::{filters_of, groups_of, needed_of, that_may_be_empty, that_read, words_of};
-use regex_lite_syntax::prefilter::{ListHeads, ListWords, Needed};
+use regex_lite_syntax::prefilter::{ListWords, Needed, PrefixIndex};
 use regex_lite_syntax::{Error, Hir};
 use std::alloc::Global;
 use std::marker::Model;
@@ -53,7 +52,7 @@ pub struct GraphList {
     /// Whether each match of a pattern reads a character, by its number.
     pub(super) reads: Vec<bool>,
     /// Which patterns may start at a position.
-    heads: ListHeads,
+    prefixes: PrefixIndex,
     /// The numbers of those that may match without reading a character, in order.
     at_end: Vec<u32>,
     /// The words of all patterns, if each is nothing but its words.
@@ -70,8 +69,8 @@ impl Model for GraphList {
     ghost use Rattle.regex_lite_engine.specs.Search.NumberedWords.{AreAnsweredBy};
     ghost use Rattle.regex_lite_engine.specs.Search.NumberedWords.{IsEachAnsweredBy};
     ghost use Rattle.regex_lite_engine.specs.Search.NeededWords.{IsNeededByAny};
-    ghost use Rattle.regex_lite_engine.specs.Search.Starts.{AreAllAtEnd, AreFiltersOf};
-    ghost use Rattle.regex_lite_engine.specs.Search.Starts.{AreListHeadsOf, AreReading};
+    ghost use Rattle.regex_lite_engine.specs.Search.Starts.{AreAllAtEnd, AreFiltersOf, AreReading};
+    ghost use Rattle.regex_lite_engine.specs.Search.Starts.{IsPrefixIndexOf};
 
     ghost Value = { StoredList };
 
@@ -86,7 +85,7 @@ impl Model for GraphList {
     ghost invariant = { λ list.
         All (λ entry. entry < length list.table.places) list.entries.items
         × (length list.entries.items < 2 ^ 32)
-        × AreListHeadsOf (places_of list.table) list.entries.items list.heads
+        × IsPrefixIndexOf (places_of list.table) list.entries.items list.prefixes
         × AreFiltersOf (places_of list.table) list.entries.items
         (map own_facts_of list.filters.items)
         × AreReading (places_of list.table) list.entries.items list.reads.items
@@ -144,7 +143,7 @@ impl GraphList {
         let filters = filters_of(alloc, hirs, words.is_none() && hirs.len() < MANY)?;
         let needed = needed_of(alloc, hirs, &filters);
         let reads = that_read(alloc, hirs)?;
-        let heads = ListHeads::of(alloc, hirs)?;
+        let prefixes = PrefixIndex::of(alloc, hirs)?;
         let at_end = that_may_be_empty(alloc, hirs)?;
         Ok(GraphList {
             table,
@@ -152,7 +151,7 @@ impl GraphList {
             groups,
             filters,
             reads,
-            heads,
+            prefixes,
             at_end,
             words,
             needed,
@@ -179,10 +178,10 @@ impl GraphList {
     }
 
     /// Which patterns may start at a position.
-    pub fn heads(&self) -> &ListHeads
-        ensures { AreListHeadsOf (table_of_list self.now) self.now.entries result.now }
+    pub fn prefixes(&self) -> &PrefixIndex
+        ensures { IsPrefixIndexOf (table_of_list self.now) self.now.entries result.now }
     {
-        &self.heads
+        &self.prefixes
     }
 
     /// The numbers of the patterns of which a match can begin at the haystack's end, in order.

@@ -1,6 +1,6 @@
 //! The places of a graph: the states of the NFA.
 ghost use Rattle.std.specs.Prelude.{◌≡◌};
-ghost use Rattle.regex_lite_engine.specs.Graph.Places.{kept_back, kept_back_with};
+ghost use Rattle.regex_lite_engine.specs.Graph.Places.{stack_bound, stack_bound_with};
 ghost use Rattle.regex_lite_engine.specs.Graph.Stored.{place_of};
 
 use crate::nfa::class::MappedClass;
@@ -34,7 +34,7 @@ const _: () = prove!(size_of::<Place>() == 32);
 impl Place {
     /// The number of arrows after the first.
     pub(crate) fn other_arrows(&self) -> usize
-        ensures { result ≡ kept_back_with 0 (place_of self.now) }
+        ensures { result ≡ stack_bound_with 0 (place_of self.now) }
     {
         match self {
             Place::Choice { .. } => 1,
@@ -44,8 +44,8 @@ impl Place {
     }
 
     /// The number of frames that a search with slots pushes at this place.
-    pub(crate) fn kept_back(&self) -> usize
-        ensures { result ≡ kept_back (place_of self.now) }
+    pub(crate) fn stack_bound(&self) -> usize
+        ensures { result ≡ stack_bound (place_of self.now) }
     {
         match self {
             Place::Slot { .. } | Place::Choice { .. } => 1,

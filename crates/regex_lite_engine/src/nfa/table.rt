@@ -1,13 +1,14 @@
 //! The state table: numbered places, for the graph of one pattern or of several.
 ghost use Rattle.std.specs.Prelude.{◌≡◌, ◌+◌, ◌^◌, ◌<◌, if◌then◌else◌, length, map};
 ghost use Rattle.std.specs.Prelude.{slice_get, sum_by, Some};
-ghost use Rattle.regex_lite_engine.specs.Graph.Places.{kept_back_of, kept_back_with, reading_of};
+ghost use Rattle.regex_lite_engine.specs.Graph.Places.{reading_of, stack_bound_of};
+ghost use Rattle.regex_lite_engine.specs.Graph.Places.{stack_bound_with};
 ghost use Rattle.regex_lite_engine.specs.Graph.Renumbered.{arrows_of};
 ghost use Rattle.regex_lite_engine.specs.Graph.Stored.{IsClosed, LeadInside, LeadsBelow};
 ghost use Rattle.regex_lite_engine.specs.Graph.Stored.{place_of, places_of};
 
-use crate::nfa::kept_back::KeptBack;
 use crate::nfa::place::Place;
+use crate::nfa::stack_bound::StackBound;
 use crate::steps::Steps;
 use std::marker::Model;
 
@@ -19,14 +20,14 @@ pub struct Table {
     /// The number of places that read a character.
     reading: usize,
     /// The stack bound of a search that enters each place once.
-    kept_back: KeptBack,
+    stack_bound: StackBound,
 }
 
 impl Model for Table {
     ghost use Rattle.std.specs.Prelude.{◌≡◌, map};
     ghost use Rattle.regex_lite_engine.specs.Graph.Renumbered.{arrows_of};
     ghost use Rattle.regex_lite_engine.specs.Graph.Stored.{StoredTable, IsClosed};
-    ghost use Rattle.regex_lite_engine.specs.Graph.Stored.{IsKeptBackOf, place_of};
+    ghost use Rattle.regex_lite_engine.specs.Graph.Stored.{IsStackBoundOf, place_of};
 
     ghost Value = { StoredTable };
 
@@ -38,7 +39,7 @@ impl Model for Table {
     ghost invariant = { λ table.
         IsClosed table.places.items table.arrows table.reading
         × (arrows_of (map place_of table.places.items) ≡ table.arrows)
-        × IsKeptBackOf (map place_of table.places.items) table.kept_back };
+        × IsStackBoundOf (map place_of table.places.items) table.stack_bound };
 }
 
 impl Table {
@@ -52,12 +53,12 @@ impl Table {
           arrows = arrows;
         } }
     {
-        let kept_back = KeptBack::of(&places);
+        let stack_bound = StackBound::of(&places);
         Table {
             places,
             arrows,
             reading,
-            kept_back,
+            stack_bound,
         }
     }
 
@@ -107,7 +108,7 @@ impl Table {
     pub fn places(&self) -> usize
         ensures same { result ≡ length self.now.places }
         ensures few { result < 2 ^ 32 }
-        ensures kept_back { 0 < result → kept_back_of (places_of self.now) < result }
+        ensures stack_bound { 0 < result → stack_bound_of (places_of self.now) < result }
         ensures few_arrows { arrows_of (places_of self.now) < 2 ^ 34 }
     {
         self.places.len()
@@ -133,13 +134,13 @@ impl Table {
     }
 
     /// The stack bound of a search with this number of slots that enters each place once.
-    pub(crate) fn kept_back(&self, slots: usize) -> usize
-        ensures { result ≡ sum_by (kept_back_with slots) (places_of self.now) }
+    pub(crate) fn stack_bound(&self, slots: usize) -> usize
+        ensures { result ≡ sum_by (stack_bound_with slots) (places_of self.now) }
     {
         if slots == 0 {
-            self.kept_back.without_slots
+            self.stack_bound.without_slots
         } else {
-            self.kept_back.with_slots
+            self.stack_bound.with_slots
         }
     }
 }

@@ -19,11 +19,11 @@ ghost use Rattle.regex_lite_engine.specs.Search.Offsets.{position_at};
 ghost use Rattle.regex_lite_engine.specs.Search.NumberedOutcomes.{IsFoundTo};
 ghost use Rattle.regex_lite_engine.specs.Pikevm.Searching.{IsFresh, IsBetween};
 ghost use Rattle.regex_lite_engine.specs.Search.Counting.{CanCount};
-ghost use Rattle.regex_lite_engine.specs.Pikevm.Turns.{best_of};
+ghost use Rattle.regex_lite_engine.specs.Pikevm.Stepping.{best_of};
 
-use crate::pikevm::beginning::Beginning;
 use crate::pikevm::cache::Cache;
 use crate::pikevm::run::is_done;
+use crate::pikevm::thread_start::ThreadStart;
 use crate::search::here::Here;
 use crate::search::patterns::Anchored;
 
@@ -33,7 +33,7 @@ use crate::search::patterns::Anchored;
 ///
 /// Condition: the start is on a character boundary, the cache is new, or was reset, and was made
 /// for the table of the patterns, and no count of the search can overflow.
-pub fn run_anchored<S: Beginning, P: Anchored, const EARLIEST: bool, const WHOLE: bool>(
+pub fn run_anchored<S: ThreadStart, P: Anchored, const EARLIEST: bool, const WHOLE: bool>(
     cache: &mut Cache<S>,
     patterns: &mut P,
     haystack: &str,

@@ -13,8 +13,8 @@ ghost use Rattle.regex_lite_engine.specs.Search.Starts.{IsDeadAt};
 
 use crate::nfa::list::GraphList;
 use crate::pikevm::anchored::run_anchored;
-use crate::pikevm::beginning::{Origin, Unkept};
 use crate::pikevm::cache::{Cache, cache_for};
+use crate::pikevm::thread_start::{MatchStart, NoStart};
 use crate::search::here::Here;
 use crate::search::one_pattern::OnePattern;
 use crate::search::outcome::Outcome;
@@ -72,7 +72,7 @@ impl<'g> OnePattern<'g> {
         if !self.may_start_at(haystack, start) {
             return Ok((false, no_steps()));
         }
-        let mut cache = cache_for::<Unkept>(alloc, self.table, 0)?;
+        let mut cache = cache_for::<NoStart>(alloc, self.table, 0)?;
         run_anchored::<_, _, true, WHOLE>(&mut cache, self, haystack, start);
         let Cache { walk, best, .. } = cache;
         Ok((best.end().is_some(), walk.steps))
@@ -107,19 +107,20 @@ impl GraphList {
         slots: usize,
     ) -> Result<(Option<(usize, Outcome)>, Steps), AllocError>
         requires { (length haystack.now < start) ⊎ IsCharBoundary haystack.now start }
-        ensures found { IfOk result (λ told. (trees : List Tree) → AreRegularPatterns trees
+        ensures found { IfOk result (λ reported. (trees : List Tree) → AreRegularPatterns trees
             → IsGraphOfList trees self.now → IsOutcomeAtOfList WHOLE trees
-            haystack.now start told.0) }
-        ensures slots { IfOk result (λ told. IfSome told.0
+            haystack.now start reported.0) }
+        ensures slots { IfOk result (λ reported. IfSome reported.0
             (λ found. length found.1.slots.items ≡ slots)) }
-        ensures cost { IfOk result (λ told. (trees : List Tree) → IsGraphOfList trees self.now
-            → HasCostOfList trees haystack.now start told.1) }
-        ensures entered { IfOk result (λ told. IfSome told.0 (λ _. 0 < told.1.entered)) }
+        ensures cost { IfOk result (λ reported. (trees : List Tree) → IsGraphOfList trees self.now
+            → HasCostOfList trees haystack.now start reported.1) }
+        ensures entered { IfOk result
+            (λ reported. IfSome reported.0 (λ _. 0 < reported.1.entered)) }
     {
         if start > haystack.len() || self.len() == 0 {
             return Ok((None, no_steps()));
         }
-        let (mut patterns, mut cache) = self.search_memory::<Origin>(alloc, slots)?;
+        let (mut patterns, mut cache) = self.search_memory::<MatchStart>(alloc, slots)?;
         run_anchored::<_, _, false, WHOLE>(&mut cache, &mut patterns, haystack, start);
         let Cache { walk, best, .. } = cache;
         Ok((best.into_numbered(), walk.steps))
@@ -141,18 +142,18 @@ impl GraphList {
         start: usize,
     ) -> Result<(bool, Steps), AllocError>
         requires { (length haystack.now < start) ⊎ IsCharBoundary haystack.now start }
-        ensures found { IfOk result (λ told. (trees : List Tree) → AreRegularPatterns trees
-            → IsGraphOfList trees self.now → (IsTrue told.0
+        ensures found { IfOk result (λ reported. (trees : List Tree) → AreRegularPatterns trees
+            → IsGraphOfList trees self.now → (IsTrue reported.0
             ↔ AnyMatchesAt WHOLE trees (chars haystack.now)
             (search_start haystack.now start))) }
-        ensures cost { IfOk result (λ told. (trees : List Tree) → IsGraphOfList trees self.now
-            → HasCostOfList trees haystack.now start told.1) }
-        ensures entered { IfOk result (λ told. IsTrue told.0 → 0 < told.1.entered) }
+        ensures cost { IfOk result (λ reported. (trees : List Tree) → IsGraphOfList trees self.now
+            → HasCostOfList trees haystack.now start reported.1) }
+        ensures entered { IfOk result (λ reported. IsTrue reported.0 → 0 < reported.1.entered) }
     {
         if start > haystack.len() || self.len() == 0 {
             return Ok((false, no_steps()));
         }
-        let (mut patterns, mut cache) = self.search_memory::<Unkept>(alloc, 0)?;
+        let (mut patterns, mut cache) = self.search_memory::<NoStart>(alloc, 0)?;
         run_anchored::<_, _, true, WHOLE>(&mut cache, &mut patterns, haystack, start);
         let Cache { walk, best, .. } = cache;
         Ok((best.end().is_some(), walk.steps))

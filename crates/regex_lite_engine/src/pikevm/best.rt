@@ -2,36 +2,36 @@
 ghost use Rattle.std.specs.Prelude.{◌≡◌, ◌↔◌, [], IfOk, IfSome, IsTrue, None, Some, length};
 ghost use Rattle.std.specs.Prelude.{option_map};
 ghost use Rattle.regex_lite_engine.specs.Search.NumberedOutcomes.{best_kept, numbered_at, span_of};
-ghost use Rattle.regex_lite_engine.specs.Search.NumberedOutcomes.{with_origin_kept};
+ghost use Rattle.regex_lite_engine.specs.Search.NumberedOutcomes.{with_match_start_kept};
 ghost use Rattle.regex_lite_engine.specs.Search.Rows.{Row};
 
-use crate::pikevm::beginning::{Beginning, Origin};
 use crate::pikevm::slot::Slot;
+use crate::pikevm::thread_start::{MatchStart, ThreadStart};
 use crate::search::outcome::Outcome;
 use std::alloc::{AllocError, Global};
 use std::marker::Model;
 
 /// The start of the best match, as far as it is kept, and its end. Its slots are in `row`.
 #[derive(Drop)]
-pub struct Best<S: Beginning> {
+pub struct Best<S: ThreadStart> {
     found: Option<(S, usize)>,
     row: Vec<Option<usize>>,
 }
 
-impl<S: Beginning> Model for Best<S> {
+impl<S: ThreadStart> Model for Best<S> {
     ghost use Rattle.regex_lite_engine.specs.Pikevm.Machine.{BestState};
-    ghost use Rattle.regex_lite_engine.specs.Search.Beginnings.{found_told};
+    ghost use Rattle.regex_lite_engine.specs.Search.ThreadStarts.{found_reported};
 
     ghost Value = { BestState };
 
     ghost view = { λ best. record {
-      found = found_told S.told best.found;
+      found = found_reported S.reported best.found;
       row = best.row.items;
     } };
 }
 
-impl<S: Beginning> Best<S> {
-    ghost use Rattle.regex_lite_engine.specs.Pikevm.Turns.{best_of};
+impl<S: ThreadStart> Best<S> {
+    ghost use Rattle.regex_lite_engine.specs.Pikevm.Stepping.{best_of};
 
     /// No match yet, with a row of `width` slots.
     ///
@@ -56,11 +56,11 @@ impl<S: Beginning> Best<S> {
     /// Makes this match the best, since the search has found it last.
     pub fn set(&mut self, start: S, end: usize, slots: &[Slot])
         requires { length slots.now ≡ length self.old.row }
-        ensures found { best_of self.new ≡ Some (S.told start, end, slots.now) }
+        ensures found { best_of self.new ≡ Some (S.reported start, end, slots.now) }
         ensures width { length self.new.row ≡ length self.old.row }
     {
         self.found = Some((start, end));
-        tell(slots, &mut self.row);
+        copy_slots(slots, &mut self.row);
     }
 
     /// The end of the match.
@@ -100,13 +100,13 @@ impl<S: Beginning> Best<S> {
 }
 
 impl Best<usize> {
-    ghost use Rattle.regex_lite_engine.specs.Pikevm.Turns.{best_of};
-    ghost use Rattle.regex_lite_engine.specs.Search.NumberedOutcomes.{match_told};
+    ghost use Rattle.regex_lite_engine.specs.Pikevm.Stepping.{best_of};
+    ghost use Rattle.regex_lite_engine.specs.Search.NumberedOutcomes.{match_reported};
     ghost use Rattle.regex_lite_engine.specs.Search.NumberedOutcomes.{with_start_kept};
 
     /// Turns this into the match, with its row.
     pub fn into_outcome(self) -> Option<Outcome>
-        ensures told { best_of self ≡ with_start_kept (match_told result) }
+        ensures reported { best_of self ≡ with_start_kept (match_reported result) }
         ensures width { IfSome result (λ outcome. length outcome.slots.items ≡ length self.row) }
     {
         let Best { found, row } = self;
@@ -121,12 +121,12 @@ impl Best<usize> {
     }
 }
 
-impl Best<Origin> {
-    ghost use Rattle.regex_lite_engine.specs.Search.NumberedOutcomes.{numbered_told};
-    ghost use Rattle.regex_lite_engine.specs.Pikevm.Turns.{best_of};
+impl Best<MatchStart> {
+    ghost use Rattle.regex_lite_engine.specs.Search.NumberedOutcomes.{numbered_reported};
+    ghost use Rattle.regex_lite_engine.specs.Pikevm.Stepping.{best_of};
 
     /// The start of the match with the number of its pattern, and its end.
-    pub fn found(&self) -> Option<(Origin, usize)>
+    pub fn found(&self) -> Option<(MatchStart, usize)>
         ensures { best_of self.now ≡ best_kept result self.now.row }
     {
         self.found
@@ -134,31 +134,31 @@ impl Best<Origin> {
 
     /// The number of the match's pattern, and the match's span.
     pub fn numbered_span(&self) -> Option<(usize, (usize, usize))>
-        ensures { best_of self.now ≡ with_origin_kept (numbered_at result self.now.row) }
+        ensures { best_of self.now ≡ with_match_start_kept (numbered_at result self.now.row) }
     {
         numbered(self.found)
     }
 
     /// Turns this into the match, with its row and the number of its pattern.
     pub fn into_numbered(self) -> Option<(usize, Outcome)>
-        ensures told { best_of self ≡ with_origin_kept (numbered_told result) }
+        ensures reported { best_of self ≡ with_match_start_kept (numbered_reported result) }
         ensures width { IfSome result
-            (λ told. length told.1.slots.items ≡ length self.row) }
+            (λ reported. length reported.1.slots.items ≡ length self.row) }
     {
         let Best { found, row } = self;
-        let (origin, end) = found?;
+        let (match_start, end) = found?;
         let outcome = Outcome {
-            start: origin.at,
+            start: match_start.at,
             end,
             slots: row,
         };
-        Some((origin.number as usize, outcome))
+        Some((match_start.number as usize, outcome))
     }
 
     /// Makes this match the best, or removes the match if this is `None`.
     ///
     /// Condition: no slots are kept.
-    pub fn keep(&mut self, found: Option<(Origin, usize)>)
+    pub fn keep(&mut self, found: Option<(MatchStart, usize)>)
         requires { length self.old.row ≡ 0 }
         ensures best { best_of self.new ≡ best_kept found [] }
         ensures row { self.new.row ≡ self.old.row }
@@ -168,23 +168,23 @@ impl Best<Origin> {
 }
 
 /// The span of the match.
-pub fn span_of(found: Option<(Origin, usize)>) -> Option<(usize, usize)>
+pub fn span_of(found: Option<(MatchStart, usize)>) -> Option<(usize, usize)>
     ensures { result ≡ span_of found }
 {
-    let (origin, end) = found?;
-    Some((origin.at, end))
+    let (match_start, end) = found?;
+    Some((match_start.at, end))
 }
 
 /// The number of the match's pattern, and the match's span.
-pub fn numbered(found: Option<(Origin, usize)>) -> Option<(usize, (usize, usize))>
-    ensures { (row : Row) → best_kept found row ≡ with_origin_kept (numbered_at result row) }
+pub fn numbered(found: Option<(MatchStart, usize)>) -> Option<(usize, (usize, usize))>
+    ensures { (row : Row) → best_kept found row ≡ with_match_start_kept (numbered_at result row) }
 {
-    let (origin, end) = found?;
-    Some((origin.number as usize, (origin.at, end)))
+    let (match_start, end) = found?;
+    Some((match_start.number as usize, (match_start.at, end)))
 }
 
 /// Writes the content of each slot.
-fn tell(slots: &[Slot], row: &mut [Option<usize>])
+fn copy_slots(slots: &[Slot], row: &mut [Option<usize>])
     requires { length slots.now ≡ length row.old }
     ensures { row.new ≡ slots.now }
 {

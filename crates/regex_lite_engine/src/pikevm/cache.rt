@@ -7,16 +7,16 @@ ghost use Rattle.regex_lite_engine.specs.Pikevm.Searching.{GoesOnIn, IsBetween, 
 
 use crate::nfa::list::GraphList;
 use crate::nfa::table::Table;
-use crate::pikevm::beginning::{Beginning, Origin};
 use crate::pikevm::best::Best;
 use crate::pikevm::memory::Memory;
+use crate::pikevm::thread_start::{MatchStart, ThreadStart};
 use crate::pikevm::walk::Walk;
 use crate::steps::no_steps;
 use std::alloc::{AllocError, Global};
 
 /// The working memory of a search. It is allocated before the search begins.
 #[derive(Drop)]
-pub struct Cache<S: Beginning> {
+pub struct Cache<S: ThreadStart> {
     pub walk: Walk<S>,
     pub best: Best<S>,
 }
@@ -29,7 +29,7 @@ pub struct Cache<S: Beginning> {
 ///
 /// If memory runs out.
 #[inline(never)]
-pub fn cache_for<S: Beginning>(
+pub fn cache_for<S: ThreadStart>(
     alloc: Global,
     table: &Table,
     slots: usize,
@@ -60,7 +60,7 @@ pub fn cache_for_list(
     alloc: Global,
     list: &GraphList,
     slots: usize,
-) -> Result<Cache<Origin>, AllocError>
+) -> Result<Cache<MatchStart>, AllocError>
     ensures ready { IfOk result (λ cache. GoesOnIn list.now cache) }
     ensures width { IfOk result (λ cache. length cache.best.row ≡ slots) }
 {
@@ -76,7 +76,7 @@ pub fn cache_for_list(
 }
 
 /// Resets the cache for another search.
-pub fn restart<S: Beginning>(cache: &mut Cache<S>)
+pub fn restart<S: ThreadStart>(cache: &mut Cache<S>)
     ensures fresh { (table : List (Place ℕ)) → IsBetween table cache.old → IsFresh table cache.new }
     ensures width { length cache.new.best.row ≡ length cache.old.best.row }
 {

@@ -3,8 +3,8 @@ ghost use Rattle.std.specs.Prelude.{◌≡◌, ◌≤◌, ◌<◌, length, vec_c
 ghost use Rattle.regex_lite_engine.specs.Pikevm.Cells.{other, place_on, start_on, with_thread};
 ghost use Rattle.regex_lite_engine.specs.Pikevm.Cells.{Continues, KeepsCapacity};
 
-use crate::pikevm::beginning::{Beginning, Origin, Unkept};
 use crate::pikevm::slot::Slot;
+use crate::pikevm::thread_start::{MatchStart, NoStart, ThreadStart};
 use std::alloc::AllocError;
 use std::mem::size_of;
 
@@ -27,7 +27,7 @@ pub enum Side {
 /// The frame and the threads of both lists that have the same number. They are otherwise unrelated,
 /// and are stored together so that one allocation suffices.
 #[derive(Copy)]
-pub struct Cell<S: Beginning> {
+pub struct Cell<S: ThreadStart> {
     /// The frame with this number.
     pub frame: Job,
     /// The starts and the places of the threads with this number.
@@ -38,7 +38,7 @@ pub struct Cell<S: Beginning> {
 }
 
 // A derived `clone` would copy field by field.
-impl<S: Beginning> Clone for Cell<S> {
+impl<S: ThreadStart> Clone for Cell<S> {
     ghost use Rattle.std.specs.Prelude.{⊤};
 
     ghost is_clone = { λ old new. new ≡ old };
@@ -54,10 +54,10 @@ impl<S: Beginning> Clone for Cell<S> {
 const _: () = prove!(size_of::<Cell<usize>>() == 40);
 
 // A search for several patterns has larger cells.
-const _: () = prove!(size_of::<Cell<Origin>>() == 56);
+const _: () = prove!(size_of::<Cell<MatchStart>>() == 56);
 
 // A search for only an end has smaller cells.
-const _: () = prove!(size_of::<Cell<Unkept>>() == 24);
+const _: () = prove!(size_of::<Cell<NoStart>>() == 24);
 
 impl Side {
     /// The other list.
@@ -71,7 +71,7 @@ impl Side {
     }
 }
 
-impl<S: Beginning> Cell<S> {
+impl<S: ThreadStart> Cell<S> {
     /// A blank cell.
     fn blank() -> Cell<S> {
         Cell {
@@ -112,7 +112,7 @@ impl<S: Beginning> Cell<S> {
 
 /// Adds the cell with this number, unless it exists. There is capacity for it.
 #[inline(always)]
-pub(super) fn provide<S: Beginning>(cells: &mut Vec<Cell<S>>, k: usize)
+pub(super) fn provide<S: ThreadStart>(cells: &mut Vec<Cell<S>>, k: usize)
     requires next { k ≤ length cells.old.items }
     requires room { k < vec_capacity cells.old }
     ensures more { Continues cells.old.items cells.new.items }

@@ -3,7 +3,7 @@ ghost use Rattle.std.specs.Prelude.{◌≡◌, ◌+◌, ◌^◌, ◌≤◌, ◌<
 ghost use Rattle.std.specs.Prelude.{false, true};
 ghost use Rattle.regex_lite_syntax.specs.Ranges.{in_ranges};
 ghost use Rattle.regex_lite_syntax.specs.Sets.{just};
-ghost use Rattle.regex_lite_engine.specs.Graph.Places.{kept_back};
+ghost use Rattle.regex_lite_engine.specs.Graph.Places.{stack_bound};
 ghost use Rattle.regex_lite_engine.specs.Graph.Stored.{place_of};
 ghost use Rattle.regex_lite_engine.specs.Pikevm.Entering.{completes, onto, reads};
 ghost use Rattle.regex_lite_engine.specs.Pikevm.Entering.{Enters, reading_on, SlotMarked};
@@ -11,10 +11,10 @@ ghost use Rattle.regex_lite_engine.specs.Pikevm.Machine.{explore};
 
 use crate::nfa::class::MappedClass;
 use crate::nfa::place::Place;
-use crate::pikevm::beginning::Beginning;
 use crate::pikevm::cell::Job;
 use crate::pikevm::memory::Memory;
 use crate::pikevm::slot::Slot;
+use crate::pikevm::thread_start::ThreadStart;
 use crate::search::here::Here;
 
 /// How a walk continues from a place.
@@ -34,16 +34,16 @@ pub enum Onward {
 // Inlined, like the functions of `Walk`, which try each place: as calls they made `is_match` by
 // line up to 1.09 times as expensive.
 #[inline(always)]
-pub fn enter<S: Beginning, const WHOLE: bool>(
+pub fn enter<S: ThreadStart, const WHOLE: bool>(
     place: &Place,
     here: Here,
     start: S,
     memory: &mut Memory<S>,
 ) -> Onward
-    requires room { length memory.old.frames + (kept_back (place_of place.now) + 1)
+    requires room { length memory.old.frames + (stack_bound (place_of place.now) + 1)
         ≤ length memory.old.entered }
     requires next_room { length memory.old.next < memory.old.room }
-    ensures entered { Enters WHOLE here (S.told start) place.now memory.old
+    ensures entered { Enters WHOLE here (S.reported start) place.now memory.old
         (record memory.new { frames = onto result memory.new.frames }) (completes result) }
     ensures same { memory.new ≡ record memory.old {
       row = memory.new.row;
@@ -104,9 +104,9 @@ fn is_in_set(set: &MappedClass, after: Option<char>) -> bool
 }
 
 /// Adds a thread at the next position, if the character is read.
-fn read_on<S: Beginning>(reads: bool, to: u32, start: S, memory: &mut Memory<S>)
+fn read_on<S: ThreadStart>(reads: bool, to: u32, start: S, memory: &mut Memory<S>)
     requires { length memory.old.next < memory.old.room }
-    ensures { memory.new ≡ reading_on reads memory.old (to, S.told start, memory.old.row) }
+    ensures { memory.new ≡ reading_on reads memory.old (to, S.reported start, memory.old.row) }
 {
     if reads {
         memory.push_next(to, start);
@@ -114,7 +114,7 @@ fn read_on<S: Beginning>(reads: bool, to: u32, start: S, memory: &mut Memory<S>)
 }
 
 /// Continues at the first of these places, and pushes the others.
-fn branch<S: Beginning>(entries: &[u32], memory: &mut Memory<S>) -> Onward
+fn branch<S: ThreadStart>(entries: &[u32], memory: &mut Memory<S>) -> Onward
     requires { length memory.old.frames + length entries.now ≤ length memory.old.entered }
     ensures onto { onto result memory.new.frames
         ≡ map explore entries.now ++ memory.old.frames }
@@ -131,7 +131,7 @@ fn branch<S: Beginning>(entries: &[u32], memory: &mut Memory<S>) -> Onward
 }
 
 /// Marks the slot, if it is kept.
-fn mark<S: Beginning>(slot: u32, at: usize, memory: &mut Memory<S>)
+fn mark<S: ThreadStart>(slot: u32, at: usize, memory: &mut Memory<S>)
     requires room { length memory.old.frames < length memory.old.entered }
     requires small { at + 1 < 2 ^ 64 }
     ensures marked { (to : ℕ) → SlotMarked at slot to memory.old

@@ -12,9 +12,9 @@ ghost use Rattle.regex_lite_engine.specs.Search.Offsets.{search_start};
 ghost use Rattle.regex_lite_engine.specs.Search.Outcomes.{IsOutcomeOfList, HasCostOfList};
 
 use crate::nfa::list::GraphList;
-use crate::pikevm::beginning::{Beginning, Origin, Unkept};
 use crate::pikevm::cache::{Cache, cache_for};
 use crate::pikevm::run::run;
+use crate::pikevm::thread_start::{MatchStart, NoStart, ThreadStart};
 use crate::search::list_patterns::ListPatterns;
 use crate::search::outcome::Outcome;
 use crate::steps::{Steps, no_steps};
@@ -38,18 +38,19 @@ impl GraphList {
         slots: usize,
     ) -> Result<(Option<(usize, Outcome)>, Steps), AllocError>
         requires { (length haystack.now < start) ⊎ IsCharBoundary haystack.now start }
-        ensures found { IfOk result (λ told. (trees : List Tree) → AreRegularPatterns trees
-            → IsGraphOfList trees self.now → IsOutcomeOfList trees haystack.now start told.0) }
-        ensures slots { IfOk result (λ told. IfSome told.0
+        ensures found { IfOk result (λ reported. (trees : List Tree) → AreRegularPatterns trees
+            → IsGraphOfList trees self.now → IsOutcomeOfList trees haystack.now start reported.0) }
+        ensures slots { IfOk result (λ reported. IfSome reported.0
             (λ found. length found.1.slots.items ≡ slots)) }
-        ensures cost { IfOk result (λ told. (trees : List Tree) → IsGraphOfList trees self.now
-            → HasCostOfList trees haystack.now start told.1) }
-        ensures entered { IfOk result (λ told. IfSome told.0 (λ _. 0 < told.1.entered)) }
+        ensures cost { IfOk result (λ reported. (trees : List Tree) → IsGraphOfList trees self.now
+            → HasCostOfList trees haystack.now start reported.1) }
+        ensures entered { IfOk result
+            (λ reported. IfSome reported.0 (λ _. 0 < reported.1.entered)) }
     {
         if start > haystack.len() || self.len() == 0 {
             return Ok((None, no_steps()));
         }
-        let (mut patterns, mut cache) = self.search_memory::<Origin>(alloc, slots)?;
+        let (mut patterns, mut cache) = self.search_memory::<MatchStart>(alloc, slots)?;
         run::<_, _, false>(&mut cache, &mut patterns, haystack, start);
         let Cache { walk, best, .. } = cache;
         Ok((best.into_numbered(), walk.steps))
@@ -70,17 +71,17 @@ impl GraphList {
         start: usize,
     ) -> Result<(bool, Steps), AllocError>
         requires { (length haystack.now < start) ⊎ IsCharBoundary haystack.now start }
-        ensures found { IfOk result (λ told. (trees : List Tree) → AreRegularPatterns trees
-            → IsGraphOfList trees self.now → (IsTrue told.0
+        ensures found { IfOk result (λ reported. (trees : List Tree) → AreRegularPatterns trees
+            → IsGraphOfList trees self.now → (IsTrue reported.0
             ↔ AnyMatchesFrom trees (chars haystack.now) (search_start haystack.now start))) }
-        ensures cost { IfOk result (λ told. (trees : List Tree) → IsGraphOfList trees self.now
-            → HasCostOfList trees haystack.now start told.1) }
-        ensures entered { IfOk result (λ told. IsTrue told.0 → 0 < told.1.entered) }
+        ensures cost { IfOk result (λ reported. (trees : List Tree) → IsGraphOfList trees self.now
+            → HasCostOfList trees haystack.now start reported.1) }
+        ensures entered { IfOk result (λ reported. IsTrue reported.0 → 0 < reported.1.entered) }
     {
         if start > haystack.len() || self.len() == 0 {
             return Ok((false, no_steps()));
         }
-        let (mut patterns, mut cache) = self.search_memory::<Unkept>(alloc, 0)?;
+        let (mut patterns, mut cache) = self.search_memory::<NoStart>(alloc, 0)?;
         run::<_, _, true>(&mut cache, &mut patterns, haystack, start);
         let Cache { walk, best, .. } = cache;
         Ok((best.end().is_some(), walk.steps))
@@ -94,7 +95,7 @@ impl GraphList {
     ///
     /// If memory runs out.
     #[inline(always)]
-    pub(super) fn search_memory<S: Beginning>(
+    pub(super) fn search_memory<S: ThreadStart>(
         &self,
         alloc: Global,
         slots: usize,

@@ -2,18 +2,18 @@
 ghost use Rattle.std.specs.Prelude.{◌≡◌, ◌↔◌, ◌+◌, ◌*◌, ◌≤◌, ◌<◌, [], IfOk, IsTrue, false};
 ghost use Rattle.std.specs.Prelude.{length, replicate, slice_index_or, slice_set, true};
 
-use crate::pikevm::beginning::Beginning;
 use crate::pikevm::cell::{Cell, Side};
 use crate::pikevm::place_set::PlaceSet;
 use crate::pikevm::rows::Rows;
 use crate::pikevm::slot::Slot;
+use crate::pikevm::thread_start::ThreadStart;
 use std::alloc::{AllocError, Global};
 use std::marker::Model;
 
 /// The working memory of a search. It takes one allocation, one more if slots are kept, and one
 /// more if there are many places.
 #[derive(Drop)]
-pub struct Memory<S: Beginning> {
+pub struct Memory<S: ThreadStart> {
     /// The places that were entered at this position.
     pub(super) entered: PlaceSet,
     /// The cells that a search has needed so far. There is capacity for one for each place.
@@ -30,7 +30,7 @@ pub struct Memory<S: Beginning> {
     pub(super) next_len: usize,
 }
 
-impl<S: Beginning> Model for Memory<S> {
+impl<S: ThreadStart> Model for Memory<S> {
     ghost use Rattle.std.specs.Prelude.{length, vec_capacity};
     ghost use Rattle.regex_lite_engine.specs.Pikevm.Machine.{State};
     ghost use Rattle.regex_lite_engine.specs.Pikevm.Cells.{frames_in, nth_row};
@@ -42,8 +42,9 @@ impl<S: Beginning> Model for Memory<S> {
       entered = memory.entered;
       frames = frames_in memory.cells.items memory.depth;
       row = nth_row memory.rows 0;
-      threads = threads_on S.told memory.side memory.cells.items memory.rows memory.room memory.len;
-      next = threads_on S.told (other memory.side) memory.cells.items memory.rows memory.room
+      threads = threads_on S.reported memory.side memory.cells.items memory.rows memory.room
+          memory.len;
+      next = threads_on S.reported (other memory.side) memory.cells.items memory.rows memory.room
           memory.next_len;
       room = memory.room;
     } };
@@ -52,7 +53,7 @@ impl<S: Beginning> Model for Memory<S> {
         (length memory.entered) memory.rows memory.room memory.depth memory.len memory.next_len };
 }
 
-impl<S: Beginning> Memory<S> {
+impl<S: ThreadStart> Memory<S> {
     /// Memory for these numbers of places and of threads in each list, with rows of this width.
     pub fn blank(
         alloc: Global,

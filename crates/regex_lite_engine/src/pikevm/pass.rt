@@ -4,20 +4,20 @@ ghost use Rattle.regex_lite_syntax.specs.Text.{Text};
 ghost use Rattle.regex_lite_engine.specs.Search.Bounds.{StaysCounted, characters_left};
 ghost use Rattle.regex_lite_engine.specs.Search.Counting.{CanCount};
 ghost use Rattle.regex_lite_engine.specs.Pikevm.Passing.{IsUnderWay, IsUnderWayTo, Passes};
-ghost use Rattle.regex_lite_engine.specs.Search.Standing.{IsHere};
+ghost use Rattle.regex_lite_engine.specs.Search.Here.{IsHere};
 ghost use Rattle.regex_lite_engine.specs.Pikevm.Passing.{GoesOnAt};
-ghost use Rattle.regex_lite_engine.specs.Pikevm.Turns.{best_of, EndsAt};
+ghost use Rattle.regex_lite_engine.specs.Pikevm.Stepping.{best_of, EndsAt};
 ghost use Rattle.regex_lite_engine.specs.Search.Starts.{AreStartsUpTo};
 
-use crate::pikevm::beginning::Beginning;
 use crate::pikevm::cache::Cache;
+use crate::pikevm::thread_start::ThreadStart;
 use crate::search::here::Here;
 use crate::search::patterns::{Patterns, pass_over};
 
-impl<S: Beginning> Cache<S> {
+impl<S: ThreadStart> Cache<S> {
     /// Moves to the next position at which there is something to do, and takes the step there.
     /// Returns that position.
-    // Inlined with all that it calls, like `turn`, since several loops use it for the same
+    // Inlined with all that it calls, like `step`, since several loops use it for the same
     // patterns.
     #[inline(always)]
     pub fn pass<P: Patterns>(&mut self, patterns: &mut P, haystack: &str, here: Here) -> Here
@@ -67,7 +67,7 @@ impl<S: Beginning> Cache<S> {
     {
         // The memory fits more threads than there are patterns.
         let _threads = self.walk.memory.threads();
-        self.turn::<_, WHOLE>(patterns, here);
+        self.step::<_, WHOLE>(patterns, here);
     }
 
     /// The position at which the search continues: where it is if there is a thread or a match, and

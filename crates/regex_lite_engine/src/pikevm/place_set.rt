@@ -39,7 +39,7 @@ struct Stamps {
     /// places, and in a short haystack often reaches no others.
     stamps: Vec<u16>,
     /// The generation: the places with this stamp are in the set.
-    round: u16,
+    generation: u16,
 }
 
 impl Model for PlaceSet {
@@ -69,7 +69,10 @@ impl PlaceSet {
         let stamps = Vec::with_capacity(alloc, places)?;
         Ok(PlaceSet {
             places,
-            marks: Marks::Stamps(Stamps { stamps, round: 1 }),
+            marks: Marks::Stamps(Stamps {
+                stamps,
+                generation: 1,
+            }),
         })
     }
 
@@ -103,16 +106,16 @@ impl Stamps {
     /// Empties the set.
     #[inline(always)]
     fn clear(&mut self)
-        requires { AreStamps self.old.stamps.items self.old.round }
-        ensures none { (k : ℕ) → is_stamped self.new.stamps.items self.new.round k ≡ false }
-        ensures stamps { AreStamps self.new.stamps.items self.new.round }
+        requires { AreStamps self.old.stamps.items self.old.generation }
+        ensures none { (k : ℕ) → is_stamped self.new.stamps.items self.new.generation k ≡ false }
+        ensures stamps { AreStamps self.new.stamps.items self.new.generation }
         ensures capacity { vec_capacity self.old.stamps ≤ vec_capacity self.new.stamps }
     {
-        if self.round == u16::MAX {
+        if self.generation == u16::MAX {
             self.stamps.clear();
-            self.round = 0;
+            self.generation = 0;
         }
-        self.round += 1;
+        self.generation += 1;
     }
 
     /// Adds a place, given by the number of places from it to the last one, including both. Returns
@@ -121,22 +124,22 @@ impl Stamps {
     fn insert(&mut self, left: usize) -> bool
         requires some { 0 < left }
         requires room { left ≤ vec_capacity self.old.stamps }
-        requires stamps { AreStamps self.old.stamps.items self.old.round }
+        requires stamps { AreStamps self.old.stamps.items self.old.generation }
         ensures fresh { IsTrue result
-            ↔ (is_stamped self.old.stamps.items self.old.round left ≡ false) }
-        ensures added { is_stamped self.new.stamps.items self.new.round left ≡ true }
+            ↔ (is_stamped self.old.stamps.items self.old.generation left ≡ false) }
+        ensures added { is_stamped self.new.stamps.items self.new.generation left ≡ true }
         ensures others { (k : ℕ) → (k ≡ left → ⊥) → 0 < k
-            → is_stamped self.new.stamps.items self.new.round k
-            ≡ is_stamped self.old.stamps.items self.old.round k }
-        ensures stamps { AreStamps self.new.stamps.items self.new.round }
+            → is_stamped self.new.stamps.items self.new.generation k
+            ≡ is_stamped self.old.stamps.items self.old.generation k }
+        ensures stamps { AreStamps self.new.stamps.items self.new.generation }
         ensures capacity { vec_capacity self.old.stamps ≤ vec_capacity self.new.stamps }
     {
         if left > self.stamps.len() {
             extend(&mut self.stamps, left);
         }
         let stamp = &mut self.stamps[left - 1];
-        let fresh = *stamp != self.round;
-        *stamp = self.round;
+        let fresh = *stamp != self.generation;
+        *stamp = self.generation;
         fresh
     }
 }

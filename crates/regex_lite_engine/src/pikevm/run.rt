@@ -6,15 +6,15 @@ ghost use Rattle.regex_lite_engine.specs.Graph.Renumbered.{arrows_of};
 ghost use Rattle.regex_lite_engine.specs.Search.Bounds.{IsBoundedBy, StaysCounted, characters_left};
 ghost use Rattle.regex_lite_engine.specs.Search.Offsets.{position_at};
 ghost use Rattle.regex_lite_engine.specs.Search.NumberedOutcomes.{IsFoundOf};
-ghost use Rattle.regex_lite_engine.specs.Search.Standing.{IsHere};
+ghost use Rattle.regex_lite_engine.specs.Search.Here.{IsHere};
 ghost use Rattle.regex_lite_engine.specs.Pikevm.Passing.{IsUnderWay};
 ghost use Rattle.regex_lite_engine.specs.Pikevm.Stopping.{Stops};
 ghost use Rattle.regex_lite_engine.specs.Pikevm.Searching.{IsFresh, IsBetween};
 ghost use Rattle.regex_lite_engine.specs.Search.Counting.{CanCount};
-ghost use Rattle.regex_lite_engine.specs.Pikevm.Turns.{best_of};
+ghost use Rattle.regex_lite_engine.specs.Pikevm.Stepping.{best_of};
 
-use crate::pikevm::beginning::Beginning;
 use crate::pikevm::cache::Cache;
+use crate::pikevm::thread_start::ThreadStart;
 use crate::search::here::Here;
 use crate::search::patterns::Patterns;
 
@@ -23,7 +23,7 @@ use crate::search::patterns::Patterns;
 ///
 /// Condition: the start is on a character boundary, the cache is new, or was reset, and was made
 /// for the table of the patterns, and no count of the search can overflow.
-pub fn run<S: Beginning, P: Patterns, const EARLIEST: bool>(
+pub fn run<S: ThreadStart, P: Patterns, const EARLIEST: bool>(
     cache: &mut Cache<S>,
     patterns: &mut P,
     haystack: &str,
@@ -60,7 +60,7 @@ pub fn run<S: Beginning, P: Patterns, const EARLIEST: bool>(
 /// it is over.
 ///
 /// Conditions: no count of the search can overflow. If EARLIEST, there is no match yet.
-pub fn advance<S: Beginning, P: Patterns, const EARLIEST: bool>(
+pub fn advance<S: ThreadStart, P: Patterns, const EARLIEST: bool>(
     cache: &mut Cache<S>,
     patterns: &mut P,
     haystack: &str,
@@ -113,7 +113,7 @@ fn is_spent(left: &mut Option<u32>) -> bool
 }
 
 /// Whether the match is known after this position, or no position is left.
-pub fn is_done<S: Beginning, const EARLIEST: bool>(here: Here, cache: &Cache<S>) -> bool
+pub fn is_done<S: ThreadStart, const EARLIEST: bool>(here: Here, cache: &Cache<S>) -> bool
     ensures done { IsTrue result → (here.after ≡ None) ⊎ (¬ (best_of cache.now.best ≡ None)
         × (EARLIEST ≡ false → length cache.now.walk.memory.threads ≡ 0)) }
     ensures at_end { here.after ≡ None → IsTrue result }

@@ -2,14 +2,14 @@
 ghost use Rattle.std.specs.Prelude.{◌≡◌, ◌↔◌, ◌+◌, ◌≤◌, ◌<◌, ◌++◌, [], ◌∷◌, ℕ};
 ghost use Rattle.std.specs.Prelude.{IsTrue, MatchOption, length, map, true};
 ghost use Rattle.regex_lite_engine.specs.Pikevm.Cells.{frame_of};
-ghost use Rattle.regex_lite_engine.specs.Pikevm.Machine.{explore, unwound};
-ghost use Rattle.regex_lite_engine.specs.Pikevm.Room.{FramesBelow};
+ghost use Rattle.regex_lite_engine.specs.Pikevm.Machine.{explore, restored};
+ghost use Rattle.regex_lite_engine.specs.Pikevm.Capacity.{FramesBelow};
 
-use crate::pikevm::beginning::Beginning;
 use crate::pikevm::cell::{Job, provide};
 use crate::pikevm::memory::Memory;
+use crate::pikevm::thread_start::ThreadStart;
 
-impl<S: Beginning> Memory<S> {
+impl<S: ThreadStart> Memory<S> {
     /// Pushes the frame.
     pub fn push(&mut self, frame: Job)
         requires { length self.old.frames < length self.old.entered }
@@ -51,8 +51,8 @@ impl<S: Beginning> Memory<S> {
     pub fn next_place(&mut self) -> Option<u32>
         requires { (places : ℕ) × FramesBelow places (length self.old.row) self.old.frames }
         ensures place { MatchOption result
-            (unwound self.old.row self.old.frames ≡ (self.new.row, []) × (self.new.frames ≡ []))
-            (λ place. unwound self.old.row self.old.frames
+            (restored self.old.row self.old.frames ≡ (self.new.row, []) × (self.new.frames ≡ []))
+            (λ place. restored self.old.row self.old.frames
             ≡ (self.new.row, explore place ∷ self.new.frames)) }
         ensures same { self.new
             ≡ record self.old { row = self.new.row; frames = self.new.frames } }

@@ -5,11 +5,11 @@ ghost use Rattle.std.specs.Prelude.{None, length, replicate, true};
 ghost use Rattle.regex_lite_engine.specs.Pikevm.Cells.{row_on};
 ghost use Rattle.regex_lite_engine.specs.Pikevm.Machine.{thread_at};
 
-use crate::pikevm::beginning::Beginning;
 use crate::pikevm::cell::{Side, provide};
 use crate::pikevm::memory::Memory;
+use crate::pikevm::thread_start::ThreadStart;
 
-impl<S: Beginning> Memory<S> {
+impl<S: ThreadStart> Memory<S> {
     /// The number of threads at the position.
     pub fn threads(&self) -> usize
         ensures same { result ≡ length self.now.threads }
@@ -22,7 +22,8 @@ impl<S: Beginning> Memory<S> {
     /// place and its start.
     pub fn load(&mut self, k: usize) -> (u32, S)
         requires { k < length self.old.threads }
-        ensures thread { thread_at self.old.threads k ≡ (result.0, S.told result.1, self.new.row) }
+        ensures thread { thread_at self.old.threads k
+            ≡ (result.0, S.reported result.1, self.new.row) }
         ensures same { self.new ≡ record self.old { row = self.new.row } }
         ensures width { length self.new.row ≡ length self.old.row }
     {
@@ -36,7 +37,7 @@ impl<S: Beginning> Memory<S> {
     pub fn thread(&self, k: usize) -> (u32, S)
         requires { k < length self.now.threads }
         ensures place { result.0 ≡ (thread_at self.now.threads k).0 }
-        ensures start { S.told result.1 ≡ (thread_at self.now.threads k).1 }
+        ensures start { S.reported result.1 ≡ (thread_at self.now.threads k).1 }
     {
         self.cells[k].thread(self.side)
     }
@@ -55,7 +56,7 @@ impl<S: Beginning> Memory<S> {
         requires { length self.old.next < self.old.room }
         ensures { self.new ≡ record self.old {
           next = self.old.next
-              ++ (place, S.told start, self.old.row) ∷ [];
+              ++ (place, S.reported start, self.old.row) ∷ [];
         } }
     {
         let side = self.side.other();
@@ -67,7 +68,7 @@ impl<S: Beginning> Memory<S> {
     }
 
     /// Moves to the next position. The one after it has no threads yet.
-    pub fn turn_over(&mut self)
+    pub fn swap_lists(&mut self)
         ensures { self.new ≡ record self.old { threads = self.old.next; next = [] } }
     {
         self.side = self.side.other();

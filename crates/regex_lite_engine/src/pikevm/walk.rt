@@ -5,34 +5,35 @@ ghost use Rattle.regex_lite_engine.specs.Graph.Stored.{places_of};
 ghost use Rattle.regex_lite_engine.specs.Search.Bounds.{StaysCounted};
 ghost use Rattle.regex_lite_engine.specs.Pikevm.Entering.{completes, onto};
 ghost use Rattle.regex_lite_engine.specs.Pikevm.Machine.{explore, thread_at};
-ghost use Rattle.regex_lite_engine.specs.Pikevm.Turns.{begun};
-ghost use Rattle.regex_lite_engine.specs.Pikevm.Room.{HasRoom, TakesFrame, Explores, KeepsPosition};
+ghost use Rattle.regex_lite_engine.specs.Pikevm.Stepping.{begun};
+ghost use Rattle.regex_lite_engine.specs.Pikevm.Capacity.{HasCapacity, TakesFrame, Explores};
+ghost use Rattle.regex_lite_engine.specs.Pikevm.Capacity.{KeepsPosition};
 
 use crate::nfa::table::Table;
-use crate::pikevm::beginning::Beginning;
 use crate::pikevm::enter::{Onward, enter};
 use crate::pikevm::memory::Memory;
+use crate::pikevm::thread_start::ThreadStart;
 use crate::search::here::Here;
 use crate::search::patterns::Patterns;
 use crate::steps::Steps;
 
 /// The working memory of a walk, and its counts.
 #[derive(Drop)]
-pub struct Walk<S: Beginning> {
+pub struct Walk<S: ThreadStart> {
     pub memory: Memory<S>,
     pub steps: Steps,
 }
 
-impl<S: Beginning> Walk<S> {
+impl<S: ThreadStart> Walk<S> {
     /// Loads a thread of the position, or one of its own starts after them: its row becomes the row
     /// of the current path. Returns the place to explore, and the thread's start.
     #[inline(always)]
-    pub fn take_up<P: Patterns>(&mut self, k: usize, patterns: &P, at: usize) -> (u32, S)
+    pub fn load_thread<P: Patterns>(&mut self, k: usize, patterns: &P, at: usize) -> (u32, S)
         requires { k < length self.old.memory.threads + length (P.starts patterns.now) }
         ensures thread { thread_at (self.old.memory.threads
-            ++ begun (S.told_of at) (replicate (length self.old.memory.row) None)
+            ++ begun (S.reported_of at) (replicate (length self.old.memory.row) None)
             (P.starts patterns.now)) k
-            ≡ (result.0, S.told result.1, self.new.memory.row) }
+            ≡ (result.0, S.reported result.1, self.new.memory.row) }
         ensures memory { self.new.memory
             ≡ record self.old.memory { row = self.new.memory.row } }
         ensures row { length self.new.memory.row ≡ length self.old.memory.row }
@@ -58,10 +59,10 @@ impl<S: Beginning> Walk<S> {
         here: Here,
         start: S,
     ) -> bool
-        requires { HasRoom (P.table patterns.now) self.old
+        requires { HasCapacity (P.table patterns.now) self.old
             (explore first ∷ self.old.memory.frames) }
-        ensures room { HasRoom (P.table patterns.now) self.new [] }
-        ensures explored { Explores (P.table patterns.now) WHOLE here (S.told start) self.old
+        ensures room { HasCapacity (P.table patterns.now) self.new [] }
+        ensures explored { Explores (P.table patterns.now) WHOLE here (S.reported start) self.old
             self.new
             (explore first ∷ self.old.memory.frames) result }
         ensures empty { self.new.memory.frames ≡ [] }
@@ -81,10 +82,10 @@ impl<S: Beginning> Walk<S> {
         here: Here,
         start: S,
     ) -> bool
-        requires { HasRoom (places_of table.now) self.old
+        requires { HasCapacity (places_of table.now) self.old
             (explore first ∷ self.old.memory.frames) }
-        ensures room { HasRoom (places_of table.now) self.new [] }
-        ensures explored { Explores (places_of table.now) WHOLE here (S.told start) self.old
+        ensures room { HasCapacity (places_of table.now) self.new [] }
+        ensures explored { Explores (places_of table.now) WHOLE here (S.reported start) self.old
             self.new
             (explore first ∷ self.old.memory.frames) result }
         ensures empty { self.new.memory.frames ≡ [] }
@@ -114,9 +115,9 @@ impl<S: Beginning> Walk<S> {
         here: Here,
         start: S,
     ) -> Onward
-        requires { HasRoom (places_of table.now) self.old
+        requires { HasCapacity (places_of table.now) self.old
             (explore place ∷ self.old.memory.frames) }
-        ensures taken { TakesFrame (places_of table.now) WHOLE here (S.told start) self.old
+        ensures taken { TakesFrame (places_of table.now) WHOLE here (S.reported start) self.old
             (explore place ∷ self.old.memory.frames) self.new
             (onto result self.new.memory.frames) (completes result) }
         ensures kept { KeepsPosition self.old.memory self.new.memory }

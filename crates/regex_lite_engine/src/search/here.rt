@@ -16,7 +16,7 @@ pub struct Here {
 }
 
 impl Here {
-    ghost use Rattle.regex_lite_engine.specs.Search.Standing.{IsHere};
+    ghost use Rattle.regex_lite_engine.specs.Search.Here.{IsHere};
 
     /// The position at this offset.
     ///
@@ -91,8 +91,8 @@ pub fn next_char(haystack: &str, at: usize) -> Option<(char, usize)>
     requires { IsCharBoundary haystack.now at }
     ensures { MatchOption result
         (after (chars haystack.now) (position_at haystack.now at) ≡ None)
-        (λ told. (after (chars haystack.now) (position_at haystack.now at) ≡ Some told.0)
-        × (told.1 ≡ at + len_utf8 told.0)) }
+        (λ reported. (after (chars haystack.now) (position_at haystack.now at) ≡ Some reported.0)
+        × (reported.1 ≡ at + len_utf8 reported.0)) }
 {
     match first_char(haystack, at) {
         None => None,

@@ -5,10 +5,10 @@ ghost use Rattle.std.specs.Prelude.{None, Some, chars, filter, length, map, vec_
 ghost use Rattle.std.specs.List.{range_with_len};
 ghost use Rattle.std.proofs.Props.{props};
 ghost use Rattle.regex_lite_syntax.specs.Text.{Text, after};
-ghost use Rattle.regex_lite_syntax.specs.Prefilter.ListHeads.{is_candidate_at, IsWalkable};
-ghost use Rattle.regex_lite_syntax.specs.Prefilter.Thirds.{may_go_on};
+ghost use Rattle.regex_lite_syntax.specs.Prefilter.PrefixIndex.{is_candidate_at, IsWalkable};
+ghost use Rattle.regex_lite_syntax.specs.Prefilter.ThirdMasks.{may_go_on};
 ghost use Rattle.regex_lite_engine.specs.Graph.StoredList.{table_of_list};
-ghost use Rattle.regex_lite_engine.specs.Search.Standing.{IsHere};
+ghost use Rattle.regex_lite_engine.specs.Search.Here.{IsHere};
 ghost use Rattle.regex_lite_engine.specs.Search.Starts.{AreStartsAt, start_numbered};
 
 use crate::nfa::list::GraphList;
@@ -16,7 +16,7 @@ use crate::nfa::table::Table;
 use crate::search::here::Here;
 use crate::search::list_skip::skip_all;
 use crate::search::patterns::{Anchored, Patterns, Start};
-use regex_lite_syntax::prefilter::ListHeads;
+use regex_lite_syntax::prefilter::PrefixIndex;
 use std::alloc::{AllocError, Global};
 
 /// Patterns, and those of them that may start at the position reached last.
@@ -78,7 +78,10 @@ impl<'g> Patterns for ListPatterns<'g> {
         // At the haystack's start the pairs don't cover all patterns, and its end has no byte.
         if here.before.is_some()
             && here.after.is_some()
-            && !self.list.heads().may_begin_at(haystack.as_bytes(), here.at)
+            && !self
+                .list
+                .prefixes()
+                .may_begin_at(haystack.as_bytes(), here.at)
         {
             self.numbers.clear();
             return;
@@ -124,7 +127,7 @@ fn list_starts(list: &GraphList, haystack: &str, here: Here, numbers: &mut Vec<u
     };
     // Each has a number of 32 bits, since there are no more.
     let _entries = list.entries();
-    list_by_index(list.heads(), haystack, here, first, numbers);
+    list_by_index(list.prefixes(), haystack, here, first, numbers);
 }
 
 /// Lists those that may start at the haystack's end: if it is empty all of them, since a search has
@@ -145,7 +148,7 @@ fn list_at_end(list: &GraphList, here: Here, numbers: &mut Vec<u32>)
     }
     // Each has a number of 32 bits, since there are no more.
     let _entries = list.entries();
-    list.heads().list_all(numbers);
+    list.prefixes().list_all(numbers);
 }
 
 /// Copies the numbers. There is room for them.
@@ -159,29 +162,35 @@ fn copy_numbers(from: &[u32], numbers: &mut Vec<u32>)
 }
 
 /// Lists the patterns that may start here, before this character, in the order of their numbers.
-fn list_by_index(heads: &ListHeads, haystack: &str, here: Here, first: char, numbers: &mut Vec<u32>)
+fn list_by_index(
+    prefixes: &PrefixIndex,
+    haystack: &str,
+    here: Here,
+    first: char,
+    numbers: &mut Vec<u32>,
+)
     requires here { (p : ℕ) × IsHere (chars haystack.now) p here }
     requires first { here.after ≡ Some first }
-    requires walkable { IsWalkable heads.now }
-    requires few { heads.now.count < 2 ^ 32 }
-    requires room { heads.now.count ≤ vec_capacity numbers.old }
+    requires walkable { IsWalkable prefixes.now }
+    requires few { prefixes.now.count < 2 ^ 32 }
+    requires room { prefixes.now.count ≤ vec_capacity numbers.old }
     ensures listed { (p : ℕ) → IsHere (chars haystack.now) p here
-        → numbers.new.items ≡ filter (is_candidate_at heads.now (chars haystack.now) p)
-        (range_with_len 0 heads.now.count) }
+        → numbers.new.items ≡ filter (is_candidate_at prefixes.now (chars haystack.now) p)
+        (range_with_len 0 prefixes.now.count) }
     ensures capacity { vec_capacity numbers.old ≤ vec_capacity numbers.new }
 {
     let second = here.next(haystack);
-    heads.list(here.before, first, second.after, numbers);
-    keep_by_third(heads, haystack, second, numbers);
+    prefixes.list(here.before, first, second.after, numbers);
+    keep_by_third(prefixes, haystack, second, numbers);
 }
 
 /// Keeps only those of these patterns that may start by their third character too: the one after
 /// the second here, if there is one.
-fn keep_by_third(heads: &ListHeads, haystack: &str, second: Here, numbers: &mut Vec<u32>)
+fn keep_by_third(prefixes: &PrefixIndex, haystack: &str, second: Here, numbers: &mut Vec<u32>)
     requires { (p : ℕ) × IsHere (chars haystack.now) p second }
     ensures kept { (p : ℕ) → IsHere (chars haystack.now) p second
         → numbers.new.items
-        ≡ filter (may_go_on heads.now.thirds (after (chars haystack.now) (suc p)))
+        ≡ filter (may_go_on prefixes.now.third_masks (after (chars haystack.now) (suc p)))
         numbers.old.items }
     ensures capacity { vec_capacity numbers.old ≤ vec_capacity numbers.new }
 {
@@ -189,6 +198,6 @@ fn keep_by_third(heads: &ListHeads, haystack: &str, second: Here, numbers: &mut 
         return;
     }
     if let Some(third) = second.next(haystack).after {
-        heads.thirds.keep(third, numbers);
+        prefixes.third_masks.keep(third, numbers);
     }
 }

@@ -2,17 +2,17 @@
 ghost use Rattle.std.specs.Prelude.{◌≡◌, ◌≤◌, ◌<◌, ◌+◌, ℕ, IfSome, IsCharBoundary};
 ghost use Rattle.std.specs.Prelude.{IsTrue, chars, false, length, slice_index};
 ghost use Rattle.regex_lite_engine.specs.Graph.StoredList.{table_of_list};
-ghost use Rattle.regex_lite_syntax.specs.Prefilter.ListHeads.{IsPassedByAll};
-ghost use Rattle.regex_lite_syntax.specs.Prefilter.Starts.{stops_at};
+ghost use Rattle.regex_lite_syntax.specs.Prefilter.PrefixIndex.{IsPassedByAll};
+ghost use Rattle.regex_lite_syntax.specs.Prefilter.FirstSet.{stops_at};
 ghost use Rattle.regex_lite_syntax.specs.Prefilter.Pairs.{HasAllPairs};
-ghost use Rattle.regex_lite_engine.specs.Search.Standing.{IsHere};
+ghost use Rattle.regex_lite_engine.specs.Search.Here.{IsHere};
 ghost use Rattle.regex_lite_engine.specs.Search.Starts.{PassesTo};
 ghost use Rattle.regex_lite_engine.specs.Search.Starts.{AreDeadAt};
 
 use crate::nfa::list::GraphList;
 use crate::search::here::{Here, first_char};
 use crate::search::start_finder::{StartFinder, next_start};
-use regex_lite_syntax::prefilter::{ListHeads, Needed, Starts};
+use regex_lite_syntax::prefilter::{FirstSet, Needed, PrefixIndex};
 
 /// The next position after this one at which a match of any pattern can begin, or the haystack's
 /// end. None if one may begin here.
@@ -36,18 +36,18 @@ impl StartFinder for GraphList {
 
     #[inline(always)]
     fn can_begin(&self, _: &str, here: Here) -> bool {
-        here.before.is_none() && self.heads().any.may_begin(here.before, here.after)
+        here.before.is_none() && self.prefixes().any.may_begin(here.before, here.after)
     }
 
     // Not inlined, since the loop of a search is so large that this one would lose its registers.
     #[inline(never)]
     fn first_known(&self, haystack: &str, from: usize) -> usize {
-        let heads = self.heads();
+        let prefixes = self.prefixes();
         // At the haystack's start the pairs don't cover all patterns.
-        if from == 0 && heads.any.may_begin(None, first_char(haystack, 0)) {
+        if from == 0 && prefixes.any.may_begin(None, first_char(haystack, 0)) {
             return 0;
         }
-        next_offset(heads, haystack.as_bytes(), from)
+        next_offset(prefixes, haystack.as_bytes(), from)
     }
 
     #[inline(always)]
@@ -57,18 +57,18 @@ impl StartFinder for GraphList {
 }
 
 /// The first offset from this one on at which a match can begin, judging by two bytes, or the end.
-fn next_offset(heads: &ListHeads, bytes: &[u8], from: usize) -> usize
-    requires pairs { HasAllPairs heads.now }
+fn next_offset(prefixes: &PrefixIndex, bytes: &[u8], from: usize) -> usize
+    requires pairs { HasAllPairs prefixes.now }
     requires from { from ≤ length bytes.now }
     ensures low { from ≤ result }
-    ensures passed { (k : ℕ) → from ≤ k → k < result → IsPassedByAll heads.now bytes.now k }
+    ensures passed { (k : ℕ) → from ≤ k → k < result → IsPassedByAll prefixes.now bytes.now k }
     ensures boundary { IsCharBoundary bytes.now result }
 {
     let mut at = from;
     'fours: while bytes.len() - at >= 4 {
-        if !passes_four(&heads.any, bytes, at) {
+        if !passes_four(&prefixes.any, bytes, at) {
             for k in 0..4 {
-                if heads.may_begin_at(bytes, at + k) {
+                if prefixes.may_begin_at(bytes, at + k) {
                     return at + k;
                 }
             }
@@ -76,7 +76,7 @@ fn next_offset(heads: &ListHeads, bytes: &[u8], from: usize) -> usize
         at += 4;
     }
     'ones: while at < bytes.len() {
-        if heads.may_begin_at(bytes, at) {
+        if prefixes.may_begin_at(bytes, at) {
             return at;
         }
         at += 1;
@@ -85,7 +85,7 @@ fn next_offset(heads: &ListHeads, bytes: &[u8], from: usize) -> usize
 }
 
 /// Whether no match can begin with any of the next four bytes.
-fn passes_four(starts: &Starts, bytes: &[u8], at: usize) -> bool
+fn passes_four(starts: &FirstSet, bytes: &[u8], at: usize) -> bool
     requires { at + 4 ≤ length bytes.now }
     ensures { IsTrue result → (k : ℕ) → at ≤ k → k < at + 4
         → stops_at starts.now (slice_index bytes.now k) ≡ false }

@@ -1,10 +1,10 @@
 //! Filters for the positions at which a match of one pattern can begin.
 ghost use Rattle.std.specs.Prelude.{◌≡◌, ℕ, IfSome, IsTrue, Some, false, chars, IsCharBoundary};
 ghost use Rattle.regex_lite_syntax.specs.Prefilter.StartFacts.{NeverStarts};
-ghost use Rattle.regex_lite_syntax.specs.Prefilter.Starts.{may_begin};
+ghost use Rattle.regex_lite_syntax.specs.Prefilter.FirstSet.{may_begin};
 ghost use Rattle.regex_lite_engine.specs.Search.Filters.{facts_of};
 ghost use Rattle.regex_lite_engine.specs.Search.Offsets.{IsOffset};
-ghost use Rattle.regex_lite_engine.specs.Search.Standing.{IsHere};
+ghost use Rattle.regex_lite_engine.specs.Search.Here.{IsHere};
 ghost use Rattle.regex_lite_engine.specs.Search.Starts.{PassesTo, SkipsTo};
 
 use crate::search::here::Here;
@@ -29,11 +29,11 @@ impl<'g> PatternFilter<'g> {
     #[inline(always)]
     pub(crate) fn may_begin(self, here: Here) -> bool
         ensures { result ≡ false
-            → may_begin (facts_of self.entry).heads.first here.before here.after ≡ false }
+            → may_begin (facts_of self.entry).prefixes.first here.before here.after ≡ false }
     {
         match self {
             PatternFilter::Whole(filter) => {
-                filter.heads().first.may_begin(here.before, here.after)
+                filter.prefixes().first.may_begin(here.before, here.after)
             }
             PatternFilter::Literal(prefix) => prefix.may_begin(here.after),
         }
@@ -117,10 +117,10 @@ impl<'g> PatternFilter<'g> {
     /// end.
     #[inline(always)]
     pub(crate) fn begins_with_none(self) -> bool
-        ensures { IsTrue result → (facts_of self.entry).heads.first.any ≡ false }
+        ensures { IsTrue result → (facts_of self.entry).prefixes.first.any ≡ false }
     {
         match self {
-            PatternFilter::Whole(filter) => !filter.heads().first.any,
+            PatternFilter::Whole(filter) => !filter.prefixes().first.any,
             PatternFilter::Literal(_) => false,
         }
     }

@@ -4,10 +4,11 @@ ghost use Rattle.std.specs.Prelude.{IsTrue, Option, false, chars, length};
 ghost use Rattle.regex_lite_syntax.specs.Tree.{character, look};
 ghost use Rattle.regex_lite_syntax.specs.Tree.Views.{tree_of};
 ghost use Rattle.regex_lite_syntax.specs.declared.hir.look.Look.TheVariants.{Word};
-ghost use Rattle.regex_lite_syntax.specs.Prefilter.Heads.{AreHeadsOfTree, IsPassed, NeverBegins};
-ghost use Rattle.regex_lite_syntax.specs.Prefilter.Starts.{may_begin};
-ghost use Rattle.regex_lite_engine.specs.Search.Prefixes.{just_starts, prefix_heads};
-ghost use Rattle.regex_lite_engine.specs.Search.Standing.{IsHere};
+ghost use Rattle.regex_lite_syntax.specs.Prefilter.PrefixSets.{ArePrefixSetsOfTree, IsPassed};
+ghost use Rattle.regex_lite_syntax.specs.Prefilter.PrefixSets.{NeverBegins};
+ghost use Rattle.regex_lite_syntax.specs.Prefilter.FirstSet.{may_begin};
+ghost use Rattle.regex_lite_engine.specs.Search.Prefixes.{just_starts, sets_of_prefix};
+ghost use Rattle.regex_lite_engine.specs.Search.Here.{IsHere};
 ghost use Rattle.regex_lite_engine.specs.Search.Starts.{SkipsTo};
 
 use crate::search::here::Here;
@@ -27,8 +28,8 @@ impl Prefix {
     /// The prefix of the tree, if it is a concatenation that begins with two such characters, or
     /// with a word boundary before them.
     pub(super) fn of(hir: &Hir) -> Option<Prefix>
-        ensures { IfSome result (λ prefix. AreHeadsOfTree (tree_of hir.now)
-            (prefix_heads prefix.first prefix.second)) }
+        ensures { IfSome result (λ prefix. ArePrefixSetsOfTree (tree_of hir.now)
+            (sets_of_prefix prefix.first prefix.second)) }
     {
         let Hir::Concat(parts) = hir else {
             return None;
@@ -87,7 +88,7 @@ impl Prefix {
         requires { (p : ℕ) × IsHere (chars haystack.now) p here }
         ensures boundary { IfSome result (IsCharBoundary haystack.now) }
         ensures passes { (p : ℕ) → IsHere (chars haystack.now) p here → IfSome result
-            (SkipsTo (NeverBegins (prefix_heads self.first self.second) (chars haystack.now))
+            (SkipsTo (NeverBegins (sets_of_prefix self.first self.second) (chars haystack.now))
             haystack.now p) }
     {
         let at = self.next_offset(haystack.as_bytes(), here.at);
@@ -105,7 +106,7 @@ impl Prefix {
         ensures low { from ≤ result }
         ensures high { result ≤ length bytes.now }
         ensures passed { (k : ℕ) → from ≤ k → k < result
-            → IsPassed (prefix_heads self.first self.second) bytes.now k }
+            → IsPassed (sets_of_prefix self.first self.second) bytes.now k }
         ensures boundary { IsCharBoundary bytes.now result }
     {
         let near = from + NEAR.min(bytes.len() - from);
@@ -125,7 +126,7 @@ impl Prefix {
         ensures low { from ≤ result }
         ensures high { result ≤ end }
         ensures passed { (k : ℕ) → from ≤ k → k < result
-            → IsPassed (prefix_heads self.first self.second) bytes.now k }
+            → IsPassed (sets_of_prefix self.first self.second) bytes.now k }
         ensures boundary { result < end → IsCharBoundary bytes.now result }
     {
         let mut at = from;
@@ -142,7 +143,7 @@ impl Prefix {
     fn stands_at(self, bytes: &[u8], at: usize) -> bool
         requires { at < length bytes.now }
         ensures passed { result ≡ false
-            → IsPassed (prefix_heads self.first self.second) bytes.now at }
+            → IsPassed (sets_of_prefix self.first self.second) bytes.now at }
         ensures boundary { IsTrue result → IsCharBoundary bytes.now at }
     {
         bytes[at] == self.first && (bytes.len() - at < 2 || bytes[at + 1] == self.second)

@@ -5,7 +5,7 @@ ghost use Rattle.std.specs.Prelude.{chars, length};
 ghost use Rattle.regex_lite_syntax.specs.Text.{Text};
 ghost use Rattle.regex_lite_syntax.specs.Prefilter.Needed.{IsOutOfReach, Reaches};
 ghost use Rattle.regex_lite_engine.specs.Search.Offsets.{offset, IsOffset};
-ghost use Rattle.regex_lite_engine.specs.Search.Standing.{IsHere};
+ghost use Rattle.regex_lite_engine.specs.Search.Here.{IsHere};
 ghost use Rattle.regex_lite_engine.specs.Search.Starts.{SkipsTo};
 
 use crate::search::here::Here;

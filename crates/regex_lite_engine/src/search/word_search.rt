@@ -36,13 +36,13 @@ impl<'g> OnePattern<'g> {
         requires boundary { IsCharBoundary haystack.now start }
         requires answers { DoWordsAnswer (places_of self.now.table.now) self.now.entry
             (facts_of self.now.filter) }
-        ensures told { IfSome result (TellsOfOne (places_of self.now.table.now) self.now.entry
+        ensures reported { IfSome result (TellsOfOne (places_of self.now.table.now) self.now.entry
             haystack.now start 0) }
-        ensures own { IfSome result (λ told. (low len : ℕ)
+        ensures own { IfSome result (λ reported. (low len : ℕ)
             → IsOwnPart (places_of self.now.table.now) (self.now.entry ∷ []) low len
             → IsBoundedBy len (arrows_of (row_of (places_of self.now.table.now) low len) + 1)
-            (chars haystack.now) (position_at haystack.now start) told.1.tried told.1.entered
-            told.1.looked) }
+            (chars haystack.now) (position_at haystack.now start) reported.1.tried
+            reported.1.entered reported.1.looked) }
     {
         let words = self.whole_words()?;
         let Some((from, end)) = words.find_span(haystack.as_bytes(), start) else {
@@ -93,13 +93,14 @@ impl GraphList {
         start: usize,
     ) -> Option<(Option<(usize, Outcome)>, Steps)>
         requires boundary { IsCharBoundary haystack.now start }
-        ensures found { IfSome result (λ told. (trees : List Tree) → AreRegularPatterns trees
-            → IsGraphOfList trees self.now → IsOutcomeOfList trees haystack.now start told.0) }
-        ensures slots { IfSome result (λ told. IfSome told.0
+        ensures found { IfSome result (λ reported. (trees : List Tree) → AreRegularPatterns trees
+            → IsGraphOfList trees self.now → IsOutcomeOfList trees haystack.now start reported.0) }
+        ensures slots { IfSome result (λ reported. IfSome reported.0
             (λ found. length found.1.slots.items ≡ 0)) }
-        ensures cost { IfSome result (λ told. (trees : List Tree) → IsGraphOfList trees self.now
-            → HasCostOfList trees haystack.now start told.1) }
-        ensures entered { IfSome result (λ told. IfSome told.0 (λ _. 0 < told.1.entered)) }
+        ensures cost { IfSome result (λ reported. (trees : List Tree) → IsGraphOfList trees self.now
+            → HasCostOfList trees haystack.now start reported.1) }
+        ensures entered { IfSome result
+            (λ reported. IfSome reported.0 (λ _. 0 < reported.1.entered)) }
     {
         let words = self.words()?;
         // Each entry is a place of the graph.

@@ -4,7 +4,7 @@ use Rattle.regex_lite_meta.proofs.Common.{map, ◌==◌, slice_get, Some, None, 
 use Rattle.regex_lite_meta.proofs.Common.{ap, ◌∙◌, subst, arith, place_of, AreAlike, Here}
 use Rattle.regex_lite_meta.proofs.Common.{Intervals, interval_of, class_of, IsBoundary}
 use Rattle.regex_lite_meta.proofs.Common.{IsBoundedPlace, character_bounds, look_bounds}
-use Rattle.regex_lite_meta.proofs.Common.{AreIntervalsOf, side_of, take, drop, ◌-◌}
+use Rattle.regex_lite_meta.proofs.Common.{AreIntervalsOf, context_of, take, drop, ◌-◌}
 use Rattle.regex_lite_engine.specs.Graph.Places.{Place, go}
 use Rattle.regex_lite_meta.specs.declared.lazy_dfa.state.LookContext.{LookContext}
 use Rattle.std.proofs.Common.{◌&&◌, ◌||◌}
@@ -27,7 +27,7 @@ use Rattle.regex_lite_meta.proofs.lazy_dfa.IntervalLemmas.{interval_within, same
 use Rattle.regex_lite_meta.proofs.lazy_dfa.IntervalLemmas.{same_set}
 use Rattle.regex_lite_meta.proofs.lazy_dfa.PartLemmas.{in_row, stored_at}
 use Rattle.regex_lite_meta.specs.LazyDfa.Parts.{IsPartOf}
-use Rattle.regex_lite_meta.specs.declared.lazy_dfa.part.Part.{Part}
+use Rattle.regex_lite_meta.specs.declared.lazy_dfa.part.PlaceRange.{PlaceRange}
 
 -- the look, by what it sees of both neighbours
 abbrev holds_by : Look → LookContext → LookContext → Bool
@@ -48,27 +48,27 @@ holds_by WordEndHalf b a = not a.is_word
 mutual
   unfolding holds_between
 
-  pub by_sides : (l : Look) (b a : Option ℕ)
-      → holds_between l b a ≡ holds_by l (side_of b) (side_of a)
-  by_sides Start b a = refl
-  by_sides End b a = refl
-  by_sides StartLF b a = refl
-  by_sides EndLF b a = refl
-  by_sides StartCRLF b a = refl
-  by_sides EndCRLF b a = refl
-  by_sides Word b a = refl
-  by_sides WordNegate b a = refl
-  by_sides WordStart b a = refl
-  by_sides WordEnd b a = refl
-  by_sides WordStartHalf b a = refl
-  by_sides WordEndHalf b a = refl
+  pub by_contexts : (l : Look) (b a : Option ℕ)
+      → holds_between l b a ≡ holds_by l (context_of b) (context_of a)
+  by_contexts Start b a = refl
+  by_contexts End b a = refl
+  by_contexts StartLF b a = refl
+  by_contexts EndLF b a = refl
+  by_contexts StartCRLF b a = refl
+  by_contexts EndCRLF b a = refl
+  by_contexts Word b a = refl
+  by_contexts WordNegate b a = refl
+  by_contexts WordStart b a = refl
+  by_contexts WordEnd b a = refl
+  by_contexts WordStartHalf b a = refl
+  by_contexts WordEndHalf b a = refl
 
 -- looks see the same
-pub same_look : (b b' a a' : Option ℕ) → side_of b ≡ side_of b' → side_of a ≡ side_of a'
+pub same_look : (b b' a a' : Option ℕ) → context_of b ≡ context_of b' → context_of a ≡ context_of a'
     → (l : Look) → holds_between l b a ≡ holds_between l b' a'
 same_look b b' a a' eb ea l =
-    by_sides l b a ∙ ap (λ (z : LookContext). holds_by l z (side_of a)) eb
-    ∙ ap (λ (z : LookContext). holds_by l (side_of b') z) ea ∙ sym (by_sides l b' a')
+    by_contexts l b a ∙ ap (λ (z : LookContext). holds_by l z (context_of a)) eb
+    ∙ ap (λ (z : LookContext). holds_by l (context_of b') z) ea ∙ sym (by_contexts l b' a')
 
 same_word : (bs : List ℕ) (c d : ℕ) → interval_of bs c ≡ interval_of bs d
     → All (IsBoundary bs) look_bounds → is_word (Some c) ≡ is_word (Some d)
@@ -84,28 +84,28 @@ same_word bs c d e bounds =
     ∙ ap (λ x. (is_between 97 122 d || is_between 65 90 d) || x || c == 95) digits
     ∙ ap (λ x. (is_between 97 122 d || is_between 65 90 d) || is_between 48 57 d || x) low_line
 
-abbrev side_with : Bool → Bool → Bool → LookContext
-side_with feed carriage word =
+abbrev context_with : Bool → Bool → Bool → LookContext
+context_with feed carriage word =
     record { is_none = false; is_line_feed = feed; is_carriage_return = carriage; is_word = word }
 
 -- looks see the same of all characters of a class
-pub same_side_of : (bs : List ℕ) (a b : Option ℕ) → class_of bs a ≡ class_of bs b
-    → All (IsBoundary bs) look_bounds → side_of a ≡ side_of b
-same_side_of bs None None e bounds = refl
-same_side_of bs None (Some d) e bounds =
+pub same_context_of : (bs : List ℕ) (a b : Option ℕ) → class_of bs a ≡ class_of bs b
+    → All (IsBoundary bs) look_bounds → context_of a ≡ context_of b
+same_context_of bs None None e bounds = refl
+same_context_of bs None (Some d) e bounds =
     absurd (let most = interval_within bs d in omega (arith, most, e))
-same_side_of bs (Some c) None e bounds =
+same_context_of bs (Some c) None e bounds =
     absurd (let most = interval_within bs c in omega (arith, most, e))
-same_side_of bs (Some c) (Some d) e bounds =
+same_context_of bs (Some c) (Some d) e bounds =
     let feed = same_char bs c d e 10 (bounds 0 0 (omega arith)) (bounds 1 0 (omega arith)) in
     let carriage = same_char bs c d e 13 (bounds 2 0 (omega arith)) (bounds 3 0 (omega arith)) in
-    ap (λ x. side_with x (c == 13) (is_word (Some c))) feed
-    ∙ ap (λ x. side_with (d == 10) x (is_word (Some c))) carriage
-    ∙ ap (λ x. side_with (d == 10) (d == 13) x) (same_word bs c d e bounds)
+    ap (λ x. context_with x (c == 13) (is_word (Some c))) feed
+    ∙ ap (λ x. context_with (d == 10) x (is_word (Some c))) carriage
+    ∙ ap (λ x. context_with (d == 10) (d == 13) x) (same_word bs c d e bounds)
 
 module _ (intervals : Intervals) (here there : Here) (alike : LooksAlike intervals here there)
     (characters : All (IsBoundary intervals.boundaries) character_bounds)
-    (sides : intervals.looks ≡ true → All (IsBoundary intervals.boundaries) look_bounds) where
+    (contexts : intervals.looks ≡ true → All (IsBoundary intervals.boundaries) look_bounds) where
   abbrev bs : List ℕ
   bs = intervals.boundaries
 
@@ -132,7 +132,7 @@ module _ (intervals : Intervals) (here there : Here) (alike : LooksAlike interva
       (read_alike (in_ranges (r ∷ rs)) (λ c d e. same_set bs c d e characters (r ∷ rs) b), tt)
   fits (stored.Look l to) b = (
     same_look here.before there.before here.after there.after (alike.behind b)
-        (same_side_of bs here.after there.after alike.ahead (sides b)) l,
+        (same_context_of bs here.after there.after alike.ahead (contexts b)) l,
     tt,
   )
   fits (stored.Slot slot to) b = (refl, tt)
@@ -141,7 +141,7 @@ module _ (intervals : Intervals) (here there : Here) (alike : LooksAlike interva
   fits stored.Match b = tt
 
 -- places in a row don't distinguish positions that look alike
-pub alike_at : (places : List code.Place) (entries : List ℕ) (part : Part)
+pub alike_at : (places : List code.Place) (entries : List ℕ) (part : PlaceRange)
     → IsPartOf (map place_of places) entries part → (row : List code.Place)
     → row ≡ take (part.end - part.low) (drop part.low places) → (intervals : Intervals)
     → AreIntervalsOf row intervals → (here there : Here) → LooksAlike intervals here there
@@ -153,7 +153,7 @@ alike_at places entries part is row cut intervals are here there looks = record 
   each = λ q place within at.
       let (own, stored, same) = stored_at places q place at in
       subst (λ (z : Place ℕ). FitsAlike z here there) same
-      (fits intervals here there looks are.characters are.sides own
+      (fits intervals here there looks are.characters are.contexts own
       (are.each (q - part.low) own
       (ap (λ z. slice_get z (q - part.low)) cut
       ∙ in_row places part.low (part.end - part.low) (q - part.low) q

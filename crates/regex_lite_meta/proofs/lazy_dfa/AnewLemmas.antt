@@ -25,7 +25,7 @@ module _ (table : List (Place ℕ)) (h : Text) (entries : List ℕ) where
     outcome_from : (best : Best) → IsBestOutcomeOf table h entries m best
         → IsBestOutcomeOf table h entries s best
     outcome_from None none = λ i k way q j is. none i k way q j (match_from i k way q j is)
-    outcome_from (Some best) (number, found, answer, told, end, held) =
+    outcome_from (Some best) (number, found, answer, reported, end, held) =
         let low = before.from in
         let own = answer.answer in
         let high = own.from in (
@@ -52,7 +52,7 @@ module _ (table : List (Place ℕ)) (h : Text) (entries : List ℕ) where
             };
             first = λ i k way q j is. answer.first i k way q j (match_from i k way q j is);
           },
-          told,
+          reported,
           end,
           held,
         )

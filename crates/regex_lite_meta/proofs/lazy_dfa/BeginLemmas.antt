@@ -5,22 +5,22 @@ use Rattle.regex_lite_meta.proofs.Common.{IsScanning}
 use Rattle.regex_lite_meta.proofs.Common.{IsUtf8, chars, IsCharBoundary, position_at, IsHere}
 use Rattle.regex_lite_meta.proofs.Common.{IfSome, Some, Option}
 use Rattle.regex_lite_meta.proofs.Common.{AreDeadAt, PassesTo, Cache, Here, Automaton, Suits}
-use Rattle.regex_lite_meta.proofs.Common.{threads_of, Stands, Standing}
+use Rattle.regex_lite_meta.proofs.Common.{threads_of, Stands, DfaPosition}
 use Rattle.regex_lite_engine.specs.Graph.Places.{Place}
 use Rattle.regex_lite_engine.specs.Pikevm.Searching.{IsFresh}
 use Rattle.regex_lite_engine.specs.Search.Starts.{SkipsTo}
 use Rattle.regex_lite_syntax.specs.Text.{before}
 use Rattle.regex_lite_meta.specs.LazyDfa.Automaton.{IsEmptyState}
 use Rattle.regex_lite_meta.specs.LazyDfa.Scanning.{ComesTo, GoesOn}
-use Rattle.regex_lite_meta.specs.declared.lazy_dfa.run.Progress.{Progress}
+use Rattle.regex_lite_meta.specs.declared.lazy_dfa.run.Position.{Position}
 use Rattle.regex_lite_engine.proofs.pikevm.ComingLemmas.{jumped, none_coming}
 use Rattle.regex_lite_meta.proofs.lazy_dfa.AnewLemmas.{none_before}
 use Rattle.regex_lite_meta.proofs.lazy_dfa.HereLemmas.{here_at, here_is, passed_at}
 use Rattle.regex_lite_meta.proofs.lazy_dfa.RunLemmas.{begun_on, own_first, passed_over}
-use Rattle.regex_lite_meta.proofs.lazy_dfa.SpotLemmas.{since_on}
+use Rattle.regex_lite_meta.proofs.lazy_dfa.CursorLemmas.{since_on}
 
 module _ (table : List (Place ℕ)) (h : Text) (entries : List ℕ) (s : ℕ) where
-  abbrev pub begun_at : Here → Progress
+  abbrev pub begun_at : Here → Position
   begun_at here = record {
     here = here;
     state = None;
@@ -47,30 +47,30 @@ module _ (table : List (Place ℕ)) (h : Text) (entries : List ℕ) (s : ℕ) wh
       state = tt;
     }
 
-    pub begun_as : {S : Type 0} (automaton : Automaton) (at : Progress) (cache : Cache S)
+    pub begun_as : {S : Type 0} (automaton : Automaton) (at : Position) (cache : Cache S)
         → at ≡ begun_at here → IsFresh table cache → length cache.walk.memory.row ≡ 0
         → Stands table h entries s automaton at cache
     begun_as automaton at cache same fresh width =
-        subst (λ (at : Progress). Stands table h entries s automaton at cache) (sym same)
+        subst (λ (at : Position). Stands table h entries s automaton at cache) (sym same)
         (begun_there automaton cache fresh width)
 
     -- remembered turns have come this far from there
-    pub begun_with : {S : Type 0} (automaton : Automaton) (at : Progress) (cache : Cache S)
+    pub begun_with : {S : Type 0} (automaton : Automaton) (at : Position) (cache : Cache S)
         → at ≡ begun_at here → IsFresh table cache
-        → length cache.walk.memory.row ≡ 0 → (stopped : Standing)
+        → length cache.walk.memory.row ≡ 0 → (stopped : DfaPosition)
         → ComesTo table entries h s passes.q here.at automaton stopped
         → (stands : Stands table h entries s automaton at cache)
         × ComesTo table entries h stands.from stands.p at.first automaton stopped
     unfolding begun_there
     begun_with automaton at cache same fresh width stopped comes =
-        subst (λ (at : Progress). (stands : Stands table h entries s automaton at cache)
+        subst (λ (at : Position). (stands : Stands table h entries s automaton at cache)
         × ComesTo table entries h stands.from stands.p at.first automaton stopped) (sym same)
         (begun_there automaton cache fresh width, comes)
 
     -- they begin in the state for what looks see before
     starts_there : (automaton : Automaton) (x : ℕ) → IsEmptyState automaton x here.before
         → IsScanning table entries h s passes.q automaton
-        (record { at = here.at; state = x; first = here.at; idle_at = here.at; best = None })
+        (record { at = here.at; state = x; first = here.at; start_state_at = here.at; best = None })
     starts_there automaton x empty = record {
       state = empty.state;
       is_state = empty.is_state;
@@ -109,17 +109,17 @@ module _ (table : List (Place ℕ)) (entries : List ℕ) (bs : List ℕ) (u : Is
   pub starts_at : length bs + 1 < 2 ^ 64 → (automaton : Automaton) (x : ℕ)
       → IsEmptyState automaton x (before (chars bs) (position_at bs at))
       → IsScanning table entries (chars bs) s (position_at bs at) automaton
-      (record { at = at; state = x; first = at; idle_at = at; best = None })
+      (record { at = at; state = x; first = at; start_state_at = at; best = None })
   starts_at fits automaton x empty =
       let here = here_at bs u fits at edge in
       let passes = skips here refl (here_is bs u fits at edge) in
       subst (λ q. IsScanning table entries (chars bs) s q automaton
-      (record { at = at; state = x; first = at; idle_at = at; best = None }))
+      (record { at = at; state = x; first = at; start_state_at = at; best = None }))
       (sym (passed_at bs u passes))
       (starts_there table (chars bs) entries s here passes automaton x empty)
 
   -- remembered turns have come this far from there
-  pub comes_from : (automaton : Automaton) (stopped : Standing) (here : Here)
+  pub comes_from : (automaton : Automaton) (stopped : DfaPosition) (here : Here)
       → (same : here.at ≡ at) → (is : IsHere (chars bs) (position_at bs at) here)
       → ComesTo table entries (chars bs) s (position_at bs at) at automaton stopped
       → ComesTo table entries (chars bs) s (skips here same is).q here.at automaton stopped
@@ -132,7 +132,7 @@ module _ (table : List (Place ℕ)) (entries : List ℕ) (bs : List ℕ) (u : Is
 
 -- it has come further
 pub comes_on : {table : List (Place ℕ)} {entries : List ℕ} {h : Text} {automaton : Automaton}
-    {low p first : ℕ} {b c : Standing} → ComesTo table entries h low p first automaton b
+    {low p first : ℕ} {b c : DfaPosition} → ComesTo table entries h low p first automaton b
     → GoesOn table entries h automaton b c → ComesTo table entries h low p first automaton c
 comes_on {table} {entries} {h} {automaton} {low} {p} {first} {b} {c} comes on =
     let r = on low comes.0 comes.2 in
@@ -141,5 +141,5 @@ comes_on {table} {entries} {h} {automaton} {low} {p} {first} {b} {c} comes on =
       r.0,
       omega (arith, le, more),
       r.2,
-      since_on table entries h low p comes.0 first b.idle_at c.idle_at le comes.3 r.3,
+      since_on table entries h low p comes.0 first b.start_state_at c.start_state_at le comes.3 r.3,
     )

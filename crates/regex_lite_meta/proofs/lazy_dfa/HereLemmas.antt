@@ -2,7 +2,7 @@
 use Rattle.regex_lite_meta.proofs.Common.{◌≡◌, ℕ, ◌+◌, ◌^◌, ◌<◌, List, length, IsUtf8, chars}
 use Rattle.regex_lite_meta.proofs.Common.{IsCharBoundary, sym, refl, ◌∙◌, subst, arith}
 use Rattle.regex_lite_meta.proofs.Common.{IsOffset, position_at, IsHere, PassesTo, Here, Automaton}
-use Rattle.regex_lite_meta.proofs.Common.{IsScanning, Standing}
+use Rattle.regex_lite_meta.proofs.Common.{IsScanning, DfaPosition}
 use Rattle.regex_lite_engine.specs.Graph.Places.{Place}
 use Rattle.regex_lite_engine.specs.Search.Starts.{SkipsTo}
 use Rattle.regex_lite_syntax.specs.Text.{after, before}
@@ -31,7 +31,7 @@ module _ (bs : List ℕ) (u : IsUtf8 bs) (fits : length bs + 1 < 2 ^ 64) (at : �
 module _ (bs : List ℕ) (u : IsUtf8 bs) where
   -- a search that goes by remembered turns stands on a character boundary
   module _ {table : List (Place ℕ)} {entries : List ℕ} {low p : ℕ} {automaton : Automaton}
-      {at : Standing} (scanning : IsScanning table entries (chars bs) low p automaton at) where
+      {at : DfaPosition} (scanning : IsScanning table entries (chars bs) low p automaton at) where
     own_offset : IsOffset (chars bs) p at.at
     own_offset = (scanning.is.inside, sym scanning.there ∙ scanning.is.bytes)
 

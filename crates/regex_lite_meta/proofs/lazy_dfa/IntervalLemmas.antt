@@ -50,9 +50,9 @@ interval_less (x ∷ bs) b c d (inr among) lt le =
     let rest = interval_less bs b c d among lt le in omega (arith, one, rest)
 
 -- no boundary lies between them
-pub same_side : (bs : List ℕ) (c d : ℕ) → interval_of bs c ≡ interval_of bs d → (b : ℕ)
+pub same_context : (bs : List ℕ) (c d : ℕ) → interval_of bs c ≡ interval_of bs d → (b : ℕ)
     → IsBoundary bs b → b ≤ c → b ≤ d
-same_side bs c d e b among le = elim (cases_lt d b) [
+same_context bs c d e b among le = elim (cases_lt d b) [
   | inl lt ↦ absurd (let less = interval_less bs b d c among lt le in omega (arith, less, e))
   | inr within ↦ within
 ]
@@ -60,8 +60,8 @@ same_side bs c d e b among le = elim (cases_lt d b) [
 pub same_test : (bs : List ℕ) (c d : ℕ) → interval_of bs c ≡ interval_of bs d → (b : ℕ)
     → IsBoundary bs b → nat_le b c ≡ nat_le b d
 same_test bs c d e b among =
-    let on = same_side bs c d e b among in
-    let back = same_side bs d c (sym e) b among in
+    let on = same_context bs c d e b among in
+    let back = same_context bs d c (sym e) b among in
     grind (arith, nat_tests, on, back)
 
 -- no more than there are

@@ -2,11 +2,11 @@
 use Rattle.regex_lite_meta.proofs.Common.{◌≡◌, ℕ, Bool, false, List, [], length, Some, None, sym}
 use Rattle.regex_lite_meta.proofs.Common.{ap, ◌∙◌, subst, nil_from_length, Text, best_of, best_at}
 use Rattle.regex_lite_meta.proofs.Common.{with_start_kept, best_kept, span_of, IsBestOutcomeOf, Row}
-use Rattle.regex_lite_meta.proofs.Common.{Origin, Cache, Automaton, IsIn, IsOnItsWay, Stands}
-use Rattle.regex_lite_meta.proofs.Common.{best_told, Option, MatchOption, IsFoundOf}
+use Rattle.regex_lite_meta.proofs.Common.{MatchStart, Cache, Automaton, IsIn, IsOnItsWay, Stands}
+use Rattle.regex_lite_meta.proofs.Common.{best_reported, Option, MatchOption, IsFoundOf}
 use Rattle.regex_lite_engine.specs.Graph.Places.{Place}
 use Rattle.regex_lite_engine.specs.Pikevm.Passing.{IsUnderWay}
-use Rattle.regex_lite_meta.specs.declared.lazy_dfa.run.Progress.{Progress}
+use Rattle.regex_lite_meta.specs.declared.lazy_dfa.run.Position.{Position}
 
 -- one that remembers nothing
 pub empty : Automaton
@@ -19,8 +19,8 @@ empty = record {
 
 module _ (table : List (Place ℕ)) (h : Text) (entries : List ℕ) (s : ℕ) where
   -- where the search stands, its state is known
-  pub known_stands : (other automaton : Automaton) (at known : Progress) (state : Option ℕ)
-      (cache : Cache Origin)
+  pub known_stands : (other automaton : Automaton) (at known : Position) (state : Option ℕ)
+      (cache : Cache MatchStart)
       → Stands table h entries s other at cache → known ≡ record at { state = state } →
       MatchOption state (Unit {0}) (λ y. IsIn automaton y at.first at.here.before cache)
       → Stands table h entries s automaton known cache
@@ -38,10 +38,10 @@ module _ (table : List (Place ℕ)) (h : Text) (entries : List ℕ) (s : ℕ) wh
       })
 
   -- what is known is the best match, and no slots are kept
-  pub found_kept : {S : Type 0} (earliest : Bool) (cache : Cache S) (known : Option (Origin × ℕ))
-      → length cache.best.row ≡ 0 → best_of cache.best ≡ best_kept known cache.best.row
-      → IsFoundOf earliest table h entries s (best_of cache.best)
-      → IsFoundOf earliest table h entries s (best_told known)
+  pub found_kept : {S : Type 0} (earliest : Bool) (cache : Cache S)
+      (known : Option (MatchStart × ℕ)) → length cache.best.row ≡ 0 → best_of cache.best ≡ best_kept
+      known cache.best.row → IsFoundOf earliest table h entries s (best_of cache.best)
+      → IsFoundOf earliest table h entries s (best_reported known)
   found_kept earliest cache known width is found =
       subst (IsFoundOf earliest table h entries s)
       (is ∙ ap (best_kept known) (nil_from_length cache.best.row width)) found
@@ -73,7 +73,7 @@ module _ (table : List (Place ℕ)) (h : Text) (entries : List ℕ) (s : ℕ) wh
 
 -- where a search stands that did not begin anew
 pub stands_under_way : {table : List (Place ℕ)} {h : Text} {entries : List ℕ} {s : ℕ}
-    {automaton : Automaton} {at : Progress} {S : Type 0} {cache : Cache S}
+    {automaton : Automaton} {at : Position} {S : Type 0} {cache : Cache S}
     (stands : Stands table h entries s automaton at cache) → at.anew ≡ false
     → IsUnderWay table h entries s stands.p cache
 stands_under_way {table} {h} {entries} {s} {cache = cache} stands own =
@@ -89,15 +89,15 @@ under_as same_table same_entries on = rw (same_table, same_entries) at on
 
 -- where the best match starts and ends, without the number of its pattern
 pub spanned : (table : List (Place ℕ)) (h : Text) (entries : List ℕ) (s : ℕ)
-    (found : Option (Origin × ℕ)) (row : Row)
+    (found : Option (MatchStart × ℕ)) (row : Row)
     → IsBestOutcomeOf table h entries s (best_kept found row)
     → IsBestOutcomeOf table h entries s (with_start_kept (best_at (span_of found) row))
 spanned table h entries s None row outcome = outcome
-spanned table h entries s (Some known) row (number, found, answer, told, end, rest) = (
+spanned table h entries s (Some known) row (number, found, answer, reported, end, rest) = (
   number,
   found,
   answer,
-  record { start_told = told.start_told; number_told = tt },
+  record { start_reported = reported.start_reported; number_reported = tt },
   end,
   rest,
 )

@@ -11,43 +11,44 @@ use Rattle.regex_lite_engine.specs.Graph.Places.{Arrow, Place, complete, go, one
 use Rattle.regex_lite_engine.specs.Graph.Stored.{LeadBelow, LeadInto, LeadsBelow, LeadsInto}
 use Rattle.regex_lite_engine.specs.Search.Starts.{AreAllStarts, IsAmong}
 use Rattle.regex_lite_meta.specs.LazyDfa.Parts.{IsInPart, IsPartOf, LeadWithin, Widens}
-use Rattle.regex_lite_meta.specs.declared.lazy_dfa.part.Part.{Part}
+use Rattle.regex_lite_meta.specs.declared.lazy_dfa.part.PlaceRange.{PlaceRange}
 use Rattle.regex_lite_syntax.specs.declared.class.ClassRange.{ClassRange}
 use Rattle.regex_lite_syntax.proofs.OptionLemmas.{not_there, same_some}
 
 -- a part that is wider has all that it had
-pub still_in : (before after : Part) → before.low ≤ before.end → Widens before after → (q : ℕ)
+pub still_in : (before after : PlaceRange) → before.low ≤ before.end → Widens before after → (q : ℕ)
     → IsInPart before q → IsInPart after q
 still_in before after order wide q (above, below) =
     let low = wide.0 in let end = wide.1 in
     (omega (arith, low, above), omega (arith, low, end, above, below, order))
 
-pub still_ordered : (before after : Part) → before.low ≤ before.end → Widens before after
+pub still_ordered : (before after : PlaceRange) → before.low ≤ before.end → Widens before after
     → after.low ≤ after.end
 still_ordered before after order wide =
     let low = wide.0 in let end = wide.1 in omega (arith, low, end, order)
 
-pub wider_still : (first before after : Part) → Widens first before → Widens before after
+pub wider_still : (first before after : PlaceRange) → Widens first before → Widens before after
     → Widens first after
 wider_still first before after one more =
     let low = one.0 in let end = one.1 in let more_low = more.0 in let more_end = more.1 in
     (omega (arith, low, more_low), omega (arith, end, more_end))
 
-module _ (before after : Part) (order : before.low ≤ before.end) (wide : Widens before after) where
-  lead_still : (arrows : List (Arrow ℕ)) → LeadInto (IsInPart before) arrows
-      → LeadInto (IsInPart after) arrows
-  lead_still [] into = tt
-  lead_still (arrow ∷ arrows) into =
-      (still_in before after order wide arrow.to into.0, lead_still arrows into.1)
+module _ (before after : PlaceRange) (order : before.low ≤ before.end) (wide : Widens before after)
+  where
+    lead_still : (arrows : List (Arrow ℕ)) → LeadInto (IsInPart before) arrows
+        → LeadInto (IsInPart after) arrows
+    lead_still [] into = tt
+    lead_still (arrow ∷ arrows) into =
+        (still_in before after order wide arrow.to into.0, lead_still arrows into.1)
 
-  -- arrows that lead into a part lead into a wider one
-  pub leads_still : (place : Place ℕ) → LeadsInto (IsInPart before) place
-      → LeadsInto (IsInPart after) place
-  leads_still complete into = tt
-  leads_still (with_arrows arrows) into = lead_still arrows into
+    -- arrows that lead into a part lead into a wider one
+    pub leads_still : (place : Place ℕ) → LeadsInto (IsInPart before) place
+        → LeadsInto (IsInPart after) place
+    leads_still complete into = tt
+    leads_still (with_arrows arrows) into = lead_still arrows into
 
-  pub all_still : (places : List ℕ) → All (IsInPart before) places → All (IsInPart after) places
-  all_still places all k d less = still_in before after order wide _ (all k d less)
+    pub all_still : (places : List ℕ) → All (IsInPart before) places → All (IsInPart after) places
+    all_still places all k d less = still_in before after order wide _ (all k d less)
 
 -- a place of a set has one arrow, unless the set is empty
 pub one_of_into : (In : ℕ → Type 0) (set : List ClassRange) (to : ℕ) → In to
@@ -136,8 +137,8 @@ stored_at places q place e = by_code (slice_get places q) refl
     )
 
 -- patterns all of whose entries are in the part, which no arrow leaves, have it as theirs
-pub part_of : (places : List code.Place) (entries : List ℕ) (starts : List Start) (part : Part)
-    → part.low ≤ part.end → part.end ≤ length places → LeadWithin places part
+pub part_of : (places : List code.Place) (entries : List ℕ) (starts : List Start)
+    (part : PlaceRange) → part.low ≤ part.end → part.end ≤ length places → LeadWithin places part
     → AreAllStarts (map place_of places) entries starts
     → ((k : ℕ) (start : Start) → slice_get starts k ≡ Some start → IsInPart part start.place)
     → IsPartOf (map place_of places) entries part

@@ -24,7 +24,7 @@ use Rattle.regex_lite_engine.specs.declared.nfa.place.Place as code
 use Rattle.regex_lite_engine.specs.declared.nfa.place.Place.TheVariants as stored
 use Rattle.regex_lite_engine.specs.Graph.Ways.{Leads}
 use Rattle.regex_lite_engine.specs.Search.NumberedAnswer.{numbered_step, place_with}
-use Rattle.regex_lite_engine.specs.Search.Offers.{Node}
+use Rattle.regex_lite_engine.specs.Search.Pending.{Node}
 use Rattle.regex_lite_engine.proofs.OffsetLemmas.{boundary_at, offset_next}
 use Rattle.regex_lite_engine.proofs.PositionLemmas.{position_of}
 use Rattle.regex_lite_engine.specs.Graph.Parts.{IsOwnPart, IsWithin, row_of}

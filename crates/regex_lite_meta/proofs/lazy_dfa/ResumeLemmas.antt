@@ -1,24 +1,26 @@
 -- A search that is taken up where remembered turns end.
-use Rattle.regex_lite_meta.proofs.Common.{◌≡◌, ℕ, zero, suc, ◌<◌, ◌≤◌, Bool, true, false, ◌⊎◌}
-use Rattle.regex_lite_meta.proofs.Common.{List, [], ◌∷◌, map, length, ◌==◌, slice_get, Some, None}
-use Rattle.regex_lite_meta.proofs.Common.{All, Option, MatchOption, sym, refl, ap, ◌∙◌, subst, inl}
-use Rattle.regex_lite_meta.proofs.Common.{inr, arith, nat_tests, length-map, Text, Thread, best_of}
+use Rattle.regex_lite_meta.proofs.Common.{◌≡◌, ℕ, zero, suc, ◌<◌, ◌≤◌, Bool, true, false, ◌⊎◌, List}
+use Rattle.regex_lite_meta.proofs.Common.{[], ◌∷◌, map, length, ◌==◌, slice_get, Some, None, All}
+use Rattle.regex_lite_meta.proofs.Common.{Option, MatchOption, sym, refl, ap, ◌∙◌, subst, inl, inr}
+use Rattle.regex_lite_meta.proofs.Common.{arith, nat_tests, length-map, Text, Thread, best_of}
 use Rattle.regex_lite_meta.proofs.Common.{IsComing, Best, offset, Row, Cache, Here, Way, Automaton}
-use Rattle.regex_lite_meta.proofs.Common.{told_by, threads_of, ways_of, Suits, FitsTable}
-use Rattle.regex_lite_meta.proofs.Common.{IsFirstStart, IsIn, IsOnItsWay, Stands, best_told}
-use Rattle.regex_lite_meta.proofs.Common.{IsHere, IsIdleAt, IsScanning, way_in, Standing, StoredWay}
+use Rattle.regex_lite_meta.proofs.Common.{reported_by, threads_of, ways_of, Suits, FitsTable}
+use Rattle.regex_lite_meta.proofs.Common.{IsFirstStart, IsIn, IsOnItsWay, Stands, best_reported}
+use Rattle.regex_lite_meta.proofs.Common.{IsHere, IsStartStateAt, IsScanning, way_in, DfaPosition}
+use Rattle.regex_lite_meta.proofs.Common.{StoredWay}
 use Rattle.regex_lite_engine.specs.Graph.Places.{Place, reading_of}
-use Rattle.regex_lite_meta.specs.LazyDfa.Automaton.{IsEmptyState, began, origin_of, told_if}
+use Rattle.regex_lite_meta.specs.LazyDfa.Automaton.{IsEmptyState, began, match_start_of}
+use Rattle.regex_lite_meta.specs.LazyDfa.Automaton.{reported_if}
 use Rattle.regex_lite_meta.specs.LazyDfa.Running.{GoesOnWith, NoneStartsBeforeOf, thread_from}
 use Rattle.std.proofs.Common.{⊎_elim, true≢false}
 use Rattle.regex_lite_engine.specs.Pikevm.Machine.{thread_at}
-use Rattle.regex_lite_engine.specs.Pikevm.Room.{ThreadsBelow}
+use Rattle.regex_lite_engine.specs.Pikevm.Capacity.{ThreadsBelow}
 use Rattle.regex_lite_engine.specs.Pikevm.Searching.{IsBetween}
-use Rattle.regex_lite_engine.specs.Pikevm.Walking.{WayTold, ThreadsHold}
-use Rattle.regex_lite_engine.specs.Search.Beginnings.{Told, IsTold}
+use Rattle.regex_lite_engine.specs.Pikevm.Walking.{WayReported, ThreadsHold}
+use Rattle.regex_lite_engine.specs.Search.ThreadStarts.{Reported, IsReported}
 use Rattle.regex_lite_engine.specs.Search.Bounds.{StepCounts}
-use Rattle.regex_lite_engine.specs.Search.Offers.{Node, Offer}
-use Rattle.regex_lite_meta.proofs.Common.{IsCharBoundary, IsSince, IsUtf8, chars, side_of}
+use Rattle.regex_lite_engine.specs.Search.Pending.{Node, PendingNode}
+use Rattle.regex_lite_meta.proofs.Common.{IsCharBoundary, IsSince, IsUtf8, chars, context_of}
 use Rattle.regex_lite_meta.proofs.Common.{position_at}
 use Rattle.regex_lite_engine.proofs.OffsetLemmas.{boundary_at}
 use Rattle.regex_lite_engine.proofs.PositionLemmas.{position_of}
@@ -32,26 +34,26 @@ eq_there a b e = grind (arith, nat_tests)
 
 -- less is known of a thread, and no slots are kept
 module _ (first : ℕ) where
-  start_less : (told : Option ℕ) (j : ℕ) → IsTold told j
-      → IsTold (told_if (began first told) first) j
+  start_less : (reported : Option ℕ) (j : ℕ) → IsReported reported j
+      → IsReported (reported_if (began first reported) first) j
   start_less None j is = tt
   start_less (Some s) j is = by_test (s == first) refl
     where
-      by_test : (b : Bool) → (s == first) ≡ b → IsTold (told_if b first) j
+      by_test : (b : Bool) → (s == first) ≡ b → IsReported (reported_if b first) j
       by_test true e = sym (eq_there s first e) ∙ is
       by_test false e = tt
 
   module _ (table : List (Place ℕ)) (h : Text) (entries : List ℕ) where
-    way_less : (i : Told) (row : Row) (n : Node) (w : List ℕ) → WayTold table h entries i row n w
-        → WayTold table h entries (told_by first (origin_of first i)) [] n w
+    way_less : (i : Reported) (row : Row) (n : Node) (w : List ℕ) → WayReported table h entries i
+        row n w → WayReported table h entries (reported_by first (match_start_of first i)) [] n w
     way_less i row n w (j, number, entry, ks, tells, is_entry, is, leads, slots) = (
       j,
       number,
       entry,
       ks,
       record {
-        start_told = start_less i.at (offset h j) tells.start_told;
-        number_told = tells.number_told;
+        start_reported = start_less i.at (offset h j) tells.start_reported;
+        number_reported = tells.number_reported;
       },
       is_entry,
       is,
@@ -59,7 +61,7 @@ module _ (first : ℕ) where
       λ k slot at. absurd (not_there at),
     )
 
-    hold_less : (p : ℕ) (ts : List Thread) (os : List (Offer Node))
+    hold_less : (p : ℕ) (ts : List Thread) (os : List (PendingNode Node))
         → ThreadsHold table h entries p ts os
         → ThreadsHold table h entries p (threads_of first (ways_of first ts)) os
     hold_less p [] [] held = tt
@@ -85,14 +87,14 @@ module _ (first : ℕ) where
 
 -- the threads of ways that all began at the first start
 module _ (first : ℕ) where
-  told_first : (w : StoredWay) → w.is_first ≡ true → (λ (b : Bool). ◌≡◌ {A = Thread} (
+  reported_first : (w : StoredWay) → w.is_first ≡ true → (λ (b : Bool). ◌≡◌ {A = Thread} (
     w.place,
-    told_by first (record { first = b; number = Some w.number }),
+    reported_by first (record { first = b; number = Some w.number }),
     [],
   ) (thread_from first w)) w.is_first
-  told_first w e = ap (λ b. (
+  reported_first w e = ap (λ b. (
     w.place,
-    told_by first (record { first = b; number = Some w.number }),
+    reported_by first (record { first = b; number = Some w.number }),
     [],
   )) e
 
@@ -101,7 +103,7 @@ module _ (first : ℕ) where
   threads_first [] all = refl
   threads_first (w ∷ ws) all =
       ap (λ (t : Thread). t ∷ threads_of first (map way_in ws))
-      (told_first w (all 0 w (omega arith)))
+      (reported_first w (all 0 w (omega arith)))
       ∙ ap (λ (ts : List Thread). thread_from first w ∷ ts)
       (threads_first ws (λ k d lt. all (suc k) d (omega (arith, lt))))
 
@@ -112,12 +114,17 @@ module _ (first : ℕ) where
       → ◌≡◌ {A = Way}
       (record {
         place = w.place;
-        origin = record { first = first == first; number = Some w.number };
+        match_start = record { first = first == first; number = Some w.number };
       })
       (way_in w)
   way_first w e =
-      ap (λ b. record { place = w.place; origin = record { first = b; number = Some w.number } })
-      (same_test ∙ sym e)
+      ap (λ b. record {
+        place = w.place;
+        match_start = record {
+          first = b;
+          number = Some w.number;
+        };
+      }) (same_test ∙ sym e)
 
   pub ways_first : (ws : List StoredWay) → All (λ way. way.is_first ≡ true) ws
       → ways_of first (map (thread_from first) ws) ≡ map way_in ws
@@ -148,21 +155,22 @@ below_at n first ws ways e below =
 module _ {table : List (Place ℕ)} {entries : List ℕ} (bs : List ℕ) (u : IsUtf8 bs)
     {low p before first : ℕ} (since : IsSince table entries (chars bs) low p before first)
     (other : first ≡ before → ⊥) where
-  pub there_idle : IsIdleAt table entries (chars bs) low p first
-  there_idle = by_first since
+  pub there_start_state : IsStartStateAt table entries (chars bs) low p first
+  there_start_state = by_first since
     where
       by_first : IsSince table entries (chars bs) low p before first
-          → IsIdleAt table entries (chars bs) low p first
+          → IsStartStateAt table entries (chars bs) low p first
       by_first (inl e) = absurd (other e)
-      by_first (inr idle) = idle
+      by_first (inr in_start) = in_start
 
-  pub idle_edge : IsCharBoundary bs first
-  idle_edge = boundary_at bs there_idle.r first u there_idle.is
+  pub start_state_edge : IsCharBoundary bs first
+  start_state_edge = boundary_at bs there_start_state.r first u there_start_state.is
 
-  pub idle_is : (here : Here) → IsHere (chars bs) (position_at bs first) here
-      → IsHere (chars bs) there_idle.r here
-  idle_is here is =
-      subst (λ z. IsHere (chars bs) z here) (position_of bs u there_idle.r first there_idle.is) is
+  pub start_state_is : (here : Here) → IsHere (chars bs) (position_at bs first) here
+      → IsHere (chars bs) there_start_state.r here
+  start_state_is here is =
+      subst (λ z. IsHere (chars bs) z here)
+      (position_of bs u there_start_state.r first there_start_state.is) is
 
 module _ (table : List (Place ℕ)) (h : Text) (entries : List ℕ) (s from p : ℕ)
     (automaton : Automaton)
@@ -190,16 +198,17 @@ module _ (table : List (Place ℕ)) (h : Text) (entries : List ℕ) (s from p : 
   }
 
   -- it goes on with the ways of the state, and with the match that was found
-  module _ (q : ℕ) (stuck : Standing) (scanning : IsScanning table entries h from q automaton stuck)
-      (later : p < q) (ws : List StoredWay) (ways : map way_in ws ≡ scanning.state.ways)
+  module _ (q : ℕ) (stuck : DfaPosition)
+      (scanning : IsScanning table entries h from q automaton stuck) (later : p < q)
+      (ws : List StoredWay) (ways : map way_in ws ≡ scanning.state.ways)
       (all : All (λ way. way.is_first ≡ true) ws)
       (fits : FitsTable table entries scanning.state.ways)
-      (best : best_of new.best ≡ best_told stuck.best)
+      (best : best_of new.best ≡ best_reported stuck.best)
       (entered : (stuck.best ≡ None) ⊎ (0 < old.walk.steps.entered))
       (threads : new.walk.memory.threads ≡ map (thread_from stuck.first) ws) where
     match_entered : (best_of new.best ≡ None → ⊥) → 0 < new.walk.steps.entered
     match_entered some =
-        ⊎_elim (λ none. absurd (some (best ∙ ap best_told none)))
+        ⊎_elim (λ none. absurd (some (best ∙ ap best_reported none)))
         (λ more. subst (λ (counts : StepCounts). 0 < counts.entered) (sym kept.steps) more) entered
 
     each_way : length new.walk.memory.threads ≡ length scanning.state.ways
@@ -211,8 +220,8 @@ module _ (table : List (Place ℕ)) (h : Text) (entries : List ℕ) (s from p : 
     few_threads : length new.walk.memory.threads ≤ reading_of table
     few_threads = let few = fits.few in let same = each_way in omega (arith, same, few)
 
-    taken_up : IsOnItsWay table h entries s from q new
-    taken_up =
+    loaded : IsOnItsWay table h entries s from q new
+    loaded =
         moved_on table h entries s from p q old new on
         (between_again match_entered few_threads (subst (ThreadsBelow (length table)) (sym threads)
         (below_at (length table) stuck.first ws scanning.state.ways ways fits.below)))
@@ -226,10 +235,10 @@ module _ (table : List (Place ℕ)) (h : Text) (entries : List ℕ) (s from p : 
         (subst (λ b. IsComing table h entries from (length h) q (map (thread_from stuck.first) ws)
         b)
         (sym best)
-        (subst (λ ts. IsComing table h entries from (length h) q ts (best_told stuck.best))
+        (subst (λ ts. IsComing table h entries from (length h) q ts (best_reported stuck.best))
         (threads_first stuck.first ws all)
         (subst (λ xs. IsComing table h entries from (length h) q (threads_of stuck.first xs)
-        (best_told stuck.best)) (sym ways) scanning.coming))))
+        (best_reported stuck.best)) (sym ways) scanning.coming))))
 
     is_in_stuck : (here : Here) → IsHere h q here
         → IsIn automaton stuck.state stuck.first here.before new
@@ -238,7 +247,7 @@ module _ (table : List (Place ℕ)) (h : Text) (entries : List ℕ) (s from p : 
       is_state = scanning.is_state;
       ways = ap (ways_of stuck.first) threads ∙ ways_first stuck.first ws all ∙ ways;
       suits = subst (Suits scanning.state.searching) (sym best) scanning.suits;
-      sees = λ looks. ap side_of (is.behind ∙ sym scanning.is.behind) ∙ scanning.sees looks;
+      sees = λ looks. ap context_of (is.behind ∙ sym scanning.is.behind) ∙ scanning.sees looks;
     }
 
     first_stuck : (ws ≡ []) ⊎ (stuck.first < stuck.at)
@@ -274,18 +283,18 @@ module _ (table : List (Place ℕ)) (h : Text) (entries : List ℕ) (s from p : 
       from = from;
       begun = begun;
       own_from = own_from;
-      on = taken_up;
+      on = loaded;
       first = subst (λ z. stuck.first ≤ z) (sym there) first.0;
       own = subst (λ z. IsFirstStart stuck.first z new.walk.memory.threads) (sym there) first.1;
       state = is_in_stuck here is;
     }
 
   -- or from nothing
-  let_gone : {at : ℕ} (idle : IsIdleAt table entries h from p at) → p < idle.r
+  is_reset : {at : ℕ} (in_start : IsStartStateAt table entries h from p at) → p < in_start.r
       → best_of new.best ≡ None → new.walk.memory.threads ≡ []
-      → IsOnItsWay table h entries s from idle.r new
-  let_gone idle later none threads =
-      moved_on table h entries s from p idle.r old new on
+      → IsOnItsWay table h entries s from in_start.r new
+  is_reset in_start later none threads =
+      moved_on table h entries s from p in_start.r old new on
       (between_again (λ some. absurd (some none))
       (let n = ap (λ (ts : List Thread). length ts) threads in omega (arith, n))
       (subst (ThreadsBelow (length table)) (sym threads) (λ k lt. absurd (omega (arith, lt)))))
@@ -293,12 +302,13 @@ module _ (table : List (Place ℕ)) (h : Text) (entries : List ℕ) (s from p : 
       (let n = ap (λ (ts : List Thread). length ts) threads in omega (arith, n))
       (λ low len part. (let n = ap (λ (ts : List Thread). length ts) threads in
       omega (arith, n))) kept.row
-      (subst (λ ts. IsComing table h entries from (length h) idle.r ts (best_of new.best))
+      (subst (λ ts. IsComing table h entries from (length h) in_start.r ts (best_of new.best))
       (sym threads)
-      (subst (λ b. IsComing table h entries from (length h) idle.r [] b) (sym none) idle.coming))
+      (subst (λ b. IsComing table h entries from (length h) in_start.r [] b) (sym none)
+      in_start.coming))
 
-  pub stands_gone : {at : ℕ} (here : Here) (idle : IsIdleAt table entries h from p at)
-      → IsHere h idle.r here → p < idle.r → best_of new.best ≡ None
+  pub stands_gone : {at : ℕ} (here : Here) (in_start : IsStartStateAt table entries h from p at)
+      → IsHere h in_start.r here → p < in_start.r → best_of new.best ≡ None
       → new.walk.memory.threads ≡ [] → (state : Option ℕ)
       → MatchOption state (Unit {0}) (λ y. IsEmptyState automaton y here.before) → (until : ℕ) →
       Stands table h entries s automaton
@@ -309,13 +319,13 @@ module _ (table : List (Place ℕ)) (h : Text) (entries : List ℕ) (s from p : 
         until = until;
         anew = anew;
       }) new
-  stands_gone here idle is later none threads state empty until = record {
-    p = idle.r;
+  stands_gone here in_start is later none threads state empty until = record {
+    p = in_start.r;
     is = is;
     from = from;
     begun = begun;
     own_from = own_from;
-    on = let_gone idle later none threads;
+    on = is_reset in_start later none threads;
     first = omega arith;
     own = own_first here.at new.walk.memory.threads threads;
     state = maybe_in_empty automaton state here.at here.before new empty threads none;

@@ -1,11 +1,11 @@
 -- A search that goes on at the same position or at a later one.
-use Rattle.regex_lite_meta.proofs.Common.{◌≡◌, ℕ, zero, suc, ◌+◌, ◌-◌, ◌*◌, ◌<◌, ◌≤◌, true}
-use Rattle.regex_lite_meta.proofs.Common.{◌⊎◌, List, [], ◌∷◌, length, IfSome, Some, None, Option}
+use Rattle.regex_lite_meta.proofs.Common.{◌≡◌, ℕ, zero, suc, ◌+◌, ◌-◌, ◌*◌, ◌<◌, ◌≤◌, true, ◌⊎◌}
+use Rattle.regex_lite_meta.proofs.Common.{List, [], ◌∷◌, length, IfSome, Some, None, Option}
 use Rattle.regex_lite_meta.proofs.Common.{MatchOption, sym, refl, ap, ◌∙◌, subst, inl, inr, arith}
 use Rattle.regex_lite_meta.proofs.Common.{cases_lt, Text, arrows_of, best_kept, offset, Row, IsHere}
-use Rattle.regex_lite_meta.proofs.Common.{AreDeadAt, PassesTo, Origin, Cache, Here, Automaton}
-use Rattle.regex_lite_meta.proofs.Common.{ways_of, Suits, side_of, IsFirstStart, IsIn, IsOnItsWay}
-use Rattle.regex_lite_meta.proofs.Common.{Thread, best_of, IsComing, Best, places_of}
+use Rattle.regex_lite_meta.proofs.Common.{AreDeadAt, PassesTo, MatchStart, Cache, Here, Automaton}
+use Rattle.regex_lite_meta.proofs.Common.{ways_of, Suits, context_of, IsFirstStart, IsIn}
+use Rattle.regex_lite_meta.proofs.Common.{IsOnItsWay, Thread, best_of, IsComing, Best, places_of}
 use Rattle.std.specs.Prelude.{if◌then◌else◌}
 use Rattle.regex_lite_engine.specs.declared.search.one_pattern.OnePattern.{OnePattern}
 use Rattle.regex_lite_engine.specs.Graph.Parts.{IsOwnPart, row_of}
@@ -63,7 +63,7 @@ module _ (table : List (Place ℕ)) (h : Text) (entries : List ℕ) (s from : �
       → cache.walk.memory.threads ≡ [] → best_of cache.best ≡ None →
       (passes : PassesTo (AreDeadAt table h entries) h p here)
       → IsOnItsWay table h entries s from passes.q cache
-  passed_over p cache here on idle none passes =
+  passed_over p cache here on in_start none passes =
       let low = on.low in let after = on.after in let later = passes.later in let tries = on.tries
       in
       let entered = on.entries_left in
@@ -81,7 +81,7 @@ module _ (table : List (Place ℕ)) (h : Text) (entries : List ℕ) (s from : �
             (λ b. IsComing table h entries from (length h) passes.q cache.walk.memory.threads b)
             (sym none)
             (jumped table h entries from
-            (length h) p passes.q cache.walk.memory.threads idle later passes.passed
+            (length h) p passes.q cache.walk.memory.threads in_start later passes.passed
             (subst (λ b. IsComing table h entries from (length h) p cache.walk.memory.threads b)
             none on.coming));
         tries = omega (arith, tries, most);
@@ -195,13 +195,13 @@ pub state_from : {S : Type 0} (automaton : Automaton) (state : Option ℕ) (firs
     → before' ≡ before → (cache.walk.memory.threads ≡ []) ⊎ (first' ≡ first) →
     MatchOption state (Unit {0}) (λ y. IsIn automaton y first before cache)
     → MatchOption state (Unit {0}) (λ y. IsIn automaton y first' before' cache)
-state_from automaton None first first' before before' cache e told known = tt
-state_from automaton (Some y) first first' before before' cache e told known = record {
+state_from automaton None first first' before before' cache e reported known = tt
+state_from automaton (Some y) first first' before before' cache e reported known = record {
   state = known.state;
   is_state = known.is_state;
-  ways = same told ∙ known.ways;
+  ways = same reported ∙ known.ways;
   suits = known.suits;
-  sees = λ looks. ap side_of e ∙ known.sees looks;
+  sees = λ looks. ap context_of e ∙ known.sees looks;
 }
   where
     same : (cache.walk.memory.threads ≡ []) ⊎ (first' ≡ first)
@@ -277,7 +277,7 @@ begun_on table h entries s cache fresh width =
     }
 
 -- a match was not complete before a place was entered
-pub match_counted : (best : Best) (found : Option (Origin × ℕ)) (row : Row) (entered least : ℕ)
+pub match_counted : (best : Best) (found : Option (MatchStart × ℕ)) (row : Row) (entered least : ℕ)
     → best ≡ best_kept found row → ((best ≡ None → ⊥) → 0 < entered) → least ≤ 1
     → IfSome found (λ _. least ≤ entered)
 match_counted best None row entered least is some few = tt

@@ -3,26 +3,28 @@ use Rattle.regex_lite_meta.proofs.Common.{◌≡◌, ℕ, suc, ◌+◌, Bool, tr
 use Rattle.regex_lite_meta.proofs.Common.{length, slice_get, Some, None, Option, option_map, sym}
 use Rattle.regex_lite_meta.proofs.Common.{refl, ap, ◌∙◌, subst, inl, inr, arith, Text, IsComing}
 use Rattle.regex_lite_meta.proofs.Common.{Best, IsBestOutcomeOf, IsNumberedEndOf, IsHere, AreDeadAt}
-use Rattle.regex_lite_meta.proofs.Common.{PassesTo, Origin, Here, Row, Way, Automaton, told_by}
-use Rattle.regex_lite_meta.proofs.Common.{threads_of, best_left, searching_after, Suits, LeadsOn}
-use Rattle.regex_lite_meta.proofs.Common.{best_kept, class_of, side_of, best_told, IsIdleAt}
-use Rattle.regex_lite_meta.proofs.Common.{IsScanning, Standing, IsFoundOf}
+use Rattle.regex_lite_meta.proofs.Common.{PassesTo, MatchStart, Here, Row, Way, Automaton}
+use Rattle.regex_lite_meta.proofs.Common.{reported_by, threads_of, best_left, searching_after}
+use Rattle.regex_lite_meta.proofs.Common.{Suits, LeadsOn, best_kept, class_of, context_of}
+use Rattle.regex_lite_meta.proofs.Common.{best_reported, IsStartStateAt, IsScanning, DfaPosition}
+use Rattle.regex_lite_meta.proofs.Common.{IsFoundOf}
 use Rattle.regex_lite_engine.specs.Graph.Places.{Place}
-use Rattle.regex_lite_meta.specs.LazyDfa.Automaton.{KeptOrigin, State, first_left}
+use Rattle.regex_lite_meta.specs.LazyDfa.Automaton.{State, StoredStart, first_left}
 use Rattle.regex_lite_meta.specs.LazyDfa.Scanning.{EndsOrLeads, LedTo}
 use Rattle.std.proofs.Common.{is_some}
 use Rattle.regex_lite_syntax.specs.Text.{after, before}
-use Rattle.regex_lite_engine.specs.Pikevm.Turns.{EndsAt}
+use Rattle.regex_lite_engine.specs.Pikevm.Stepping.{EndsAt}
 use Rattle.regex_lite_engine.proofs.pikevm.EndLemmas.{ended_all}
 use Rattle.regex_lite_engine.proofs.search.here.HereLemmas.{over_at}
 use Rattle.regex_lite_syntax.proofs.OptionLemmas.{not_there, same_some}
 use Rattle.regex_lite_engine.proofs.pikevm.ShortestLemmas.{shortest_known}
 use Rattle.regex_lite_engine.proofs.pikevm.ComingLemmas.{jumped}
 
-still_suits : (hit : Option KeptOrigin) (searching : Bool) (i at : ℕ) (best : Best)
-    → Suits searching best → Suits (searching_after hit searching) (best_left hit i at best)
+still_suits : (match_flag : Option StoredStart) (searching : Bool) (i at : ℕ) (best : Best)
+    → Suits searching best → Suits (searching_after match_flag searching)
+    (best_left match_flag i at best)
 still_suits None searching i at best s = s
-still_suits (Some origin) searching i at best s = λ e. not_there (sym e)
+still_suits (Some match_start) searching i at best s = λ e. not_there (sym e)
 
 -- nobody asks for the first start where there are no ways
 same_threads : (i j : ℕ) (ways : List Way) → (ways ≡ []) ⊎ (j ≡ i)
@@ -37,18 +39,22 @@ IsFirstAfter state last at before first =
     ⊎ ((state.ways ≡ [] → ⊥) × (first ≡ first_left state.restarts before last))
 
 -- the last offset with nothing to go on from after that
-abbrev pub IsIdleAfter : State → (at : ℕ) → (before idle : ℕ) → Type 0
-IsIdleAfter state at before idle = ((state.ways ≡ []) × (idle ≡ at)) ⊎ (idle ≡ before)
+abbrev pub IsStartStateAfter : State → (at : ℕ) → (before in_start : ℕ) → Type 0
+IsStartStateAfter state at before in_start = ((state.ways ≡ []) × (in_start ≡ at))
+    ⊎ (in_start ≡ before)
 
 -- both, as they are told
-pub first_and_idle : (state : State) (last at before first before_idle idle : ℕ)
-    → ((state.ways ≡ []) × (first ≡ at) × (idle ≡ at))
+pub first_and_start_state : (state : State) (last at before first before_start_state in_start : ℕ)
+    → ((state.ways ≡ []) × (first ≡ at) × (in_start ≡ at))
     ⊎ ((state.ways ≡ [] → ⊥) × (first ≡ first_left state.restarts before last)
-    × (idle ≡ before_idle))
-    → IsFirstAfter state last at before first × IsIdleAfter state at before_idle idle
-first_and_idle state last at before first before_idle idle (inl (none, own, same)) =
+    × (in_start ≡ before_start_state))
+    → IsFirstAfter state last at before first × IsStartStateAfter state at before_start_state
+    in_start
+first_and_start_state state last at before first before_start_state in_start
+    (inl (none, own, same)) =
     (inl (none, own), inl (none, same))
-first_and_idle state last at before first before_idle idle (inr (some, own, same)) =
+first_and_start_state state last at before first before_start_state in_start
+    (inr (some, own, same)) =
     (inr (some, own), inr same)
 
 -- the character before the next position
@@ -59,8 +65,8 @@ next_before h p next on = on.behind ∙ ap (before h) more
     more = omega arith
 
 -- the turn before this character leads to a state in which this match is known
-pub record TurnsTo (table : List (Place ℕ)) (entries : List ℕ) (automaton : Automaton) (x : ℕ)
-    (after : Option ℕ) (y : ℕ) (hit : Option KeptOrigin) : Type 0 where
+pub record TransitionsTo (table : List (Place ℕ)) (entries : List ℕ) (automaton : Automaton) (x : ℕ)
+    (after : Option ℕ) (y : ℕ) (match_flag : Option StoredStart) : Type 0 where
   pub class : ℕ
   pub is_class : class_of automaton.intervals.boundaries after ≡ class
   pub from : State
@@ -68,95 +74,100 @@ pub record TurnsTo (table : List (Place ℕ)) (entries : List ℕ) (automaton : 
   pub to : State
   pub is_to : slice_get automaton.states y ≡ Some to
   pub leads : LeadsOn table entries automaton.intervals from class to
-  pub is_hit : to.hit ≡ hit
+  pub is_match_flag : to.match_flag ≡ match_flag
 
 module _ (table : List (Place ℕ)) (entries : List ℕ) (h : Text) (low p : ℕ) (automaton : Automaton)
-    (at : Standing) (scanning : IsScanning table entries h low p automaton at) where
-  module _ {y : ℕ} {hit : Option KeptOrigin}
-      (turn : TurnsTo table entries automaton at.state (after h p) y hit) where
-    here_class : class_of automaton.intervals.boundaries scanning.here.after ≡ turn.class
-    here_class = ap (class_of automaton.intervals.boundaries) scanning.is.ahead ∙ turn.is_class
+    (at : DfaPosition) (scanning : IsScanning table entries h low p automaton at) where
+  module _ {y : ℕ} {match_flag : Option StoredStart}
+      (transition : TransitionsTo table entries automaton at.state (after h p) y match_flag) where
+    here_class : class_of automaton.intervals.boundaries scanning.here.after ≡ transition.class
+    here_class = ap (class_of automaton.intervals.boundaries) scanning.is.ahead
+        ∙ transition.is_class
 
-    leads_here : LeadsOn table entries automaton.intervals scanning.state turn.class turn.to
+    leads_here : LeadsOn table entries automaton.intervals scanning.state transition.class
+        transition.to
     leads_here =
-        subst (λ s. LeadsOn table entries automaton.intervals s turn.class turn.to)
-        (same_some (sym turn.is_from ∙ scanning.is_state)) turn.leads
+        subst (λ s. LeadsOn table entries automaton.intervals s transition.class transition.to)
+        (same_some (sym transition.is_from ∙ scanning.is_state)) transition.leads
 
     coming_next : (best : Best) → Suits scanning.state.searching best →
         IsComing table h entries low (length h) p (threads_of at.first scanning.state.ways) best →
         IsComing table h entries low (length h) (p + 1)
-        (threads_of (first_left turn.to.restarts at.first at.at) turn.to.ways)
-        (best_left hit at.first at.at best)
+        (threads_of (first_left transition.to.restarts at.first at.at) transition.to.ways)
+        (best_left match_flag at.first at.at best)
     coming_next best suits coming =
         subst (λ z. IsComing table h entries low (length h) (p + 1)
-        (threads_of (first_left turn.to.restarts at.first z) turn.to.ways)
-        (best_left hit at.first z best)) scanning.there
+        (threads_of (first_left transition.to.restarts at.first z) transition.to.ways)
+        (best_left match_flag at.first z best)) scanning.there
         (subst (λ z. IsComing table h entries low (length h) (p + 1)
-        (threads_of (first_left turn.to.restarts at.first scanning.here.at) turn.to.ways)
-        (best_left z at.first scanning.here.at best)) turn.is_hit
+        (threads_of (first_left transition.to.restarts at.first scanning.here.at)
+        transition.to.ways) (best_left z at.first scanning.here.at best)) transition.is_match_flag
         (leads_here.on scanning.here (record { ahead = here_class; behind = scanning.sees })
         at.first (λ none. scanning.own none ∙ sym scanning.there) best suits h p low (length h)
         scanning.is scanning.later scanning.is.inside coming))
 
-    pub led_step : (best : Option (Origin × ℕ))
-        → best_told best ≡ best_left hit at.first at.at (best_told at.best) →
+    pub led_step : (best : Option (MatchStart × ℕ))
+        → best_reported best ≡ best_left match_flag at.first at.at (best_reported at.best) →
         LedTo table entries h low p automaton at y best
     led_step best left = record {
-      state = turn.to;
-      is_state = turn.is_to;
+      state = transition.to;
+      is_state = transition.is_to;
       suits =
-          subst (λ b. Suits b (best_told best))
-          (ap (λ hit. searching_after hit scanning.state.searching) (sym turn.is_hit)
-          ∙ sym leads_here.searching)
-          (subst (Suits (searching_after hit scanning.state.searching)) (sym left)
-          (still_suits hit scanning.state.searching at.first at.at (best_told at.best)
+          subst (λ b. Suits b (best_reported best))
+          (ap (λ match_flag. searching_after match_flag scanning.state.searching)
+          (sym transition.is_match_flag) ∙ sym leads_here.searching)
+          (subst (Suits (searching_after match_flag scanning.state.searching)) (sym left)
+          (still_suits match_flag scanning.state.searching at.first at.at (best_reported at.best)
           scanning.suits));
       sees = λ looks.
-          ap side_of (sym scanning.is.ahead)
+          ap context_of (sym scanning.is.ahead)
           ∙ leads_here.before looks scanning.here here_class;
       coming =
           subst
           (IsComing table h entries low (length h) (p + 1)
-          (threads_of (first_left turn.to.restarts at.first at.at) turn.to.ways))
-          (sym left) (coming_next (best_told at.best) scanning.suits scanning.coming);
+          (threads_of (first_left transition.to.restarts at.first at.at) transition.to.ways))
+          (sym left) (coming_next (best_reported at.best) scanning.suits scanning.coming);
     }
 
     -- a turn without a match before it ends the search where it completes one, or at the end
     pub end_led : at.best ≡ None
-        → ((p ≡ length h) ⊎ (best_left hit at.first at.at None ≡ None → ⊥)) →
-        IsNumberedEndOf table h entries low (best_left hit at.first at.at None)
+        → ((p ≡ length h) ⊎ (best_left match_flag at.first at.at None ≡ None → ⊥)) →
+        IsNumberedEndOf table h entries low (best_left match_flag at.first at.at None)
     end_led none over =
         shortest_known table h entries low p at.at (threads_of at.first scanning.state.ways)
-        (threads_of (first_left turn.to.restarts at.first at.at) turn.to.ways) None
-        (best_left hit at.first at.at None)
-        scanning.later scanning.is.inside refl (sym scanning.there ∙ scanning.is.bytes) (ends hit)
-        over before
-        (coming_next None (subst (λ b. Suits scanning.state.searching (best_told b)) none
+        (threads_of (first_left transition.to.restarts at.first at.at) transition.to.ways) None
+        (best_left match_flag at.first at.at None)
+        scanning.later scanning.is.inside refl (sym scanning.there ∙ scanning.is.bytes)
+        (ends match_flag) over before
+        (coming_next None (subst (λ b. Suits scanning.state.searching (best_reported b)) none
         scanning.suits) before)
       where
         before : IsComing table h entries low (length h) p
             (threads_of at.first scanning.state.ways) None
         before =
             subst (λ b. IsComing table h entries low (length h) p
-            (threads_of at.first scanning.state.ways) (best_told b)) none scanning.coming
+            (threads_of at.first scanning.state.ways) (best_reported b)) none scanning.coming
 
-        ends : (hit : Option KeptOrigin)
-            → EndsAt at.at None (best_left hit at.first at.at None)
+        ends : (match_flag : Option StoredStart)
+            → EndsAt at.at None (best_left match_flag at.first at.at None)
         ends None = inl refl
-        ends (Some origin) = inr (told_by at.first origin, [], refl)
+        ends (Some match_start) = inr (reported_by at.first match_start, [], refl)
 
     -- a turn completes a match that ends here. If the least end is asked for, its start says
     -- nothing
-    pub completed : {origin : KeptOrigin} (earliest : Bool) (told : Origin)
-        → hit ≡ Some origin → (earliest ≡ true → at.best ≡ None)
+    pub completed : {match_start : StoredStart} (earliest : Bool) (reported : MatchStart)
+        → match_flag ≡ Some match_start → (earliest ≡ true → at.best ≡ None)
         → (earliest ≡ false
-        → told_by at.first origin ≡ record { at = Some told.at; number = Some told.number })
-        → EndsOrLeads table entries h low p automaton earliest at y (Some (told, at.at))
-    completed false told is none same =
-        led_step (Some (told, at.at))
+        → reported_by at.first match_start ≡ record {
+          at = Some reported.at;
+          number = Some reported.number;
+        }) → EndsOrLeads table entries h low p automaton earliest at y
+        (Some (reported, at.at))
+    completed false reported is none same =
+        led_step (Some (reported, at.at))
         (ap (λ z. Some (z, at.at, [])) (sym (same refl))
-        ∙ ap (λ z. best_left z at.first at.at (best_told at.best)) (sym is))
-    completed {origin} true told is none same =
+        ∙ ap (λ z. best_left z at.first at.at (best_reported at.best)) (sym is))
+    completed {match_start} true reported is none same =
         subst (λ z. IsNumberedEndOf table h entries low (best_left z at.first at.at None)) is
         (end_led (none refl)
         (inr (subst (λ z. best_left z at.first at.at None ≡ None → ⊥) (sym is)
@@ -171,26 +182,26 @@ module _ (table : List (Place ℕ)) (entries : List ℕ) (h : Text) (low p : ℕ
       subst (EndsOrLeads table entries h low p automaton true at y) (sym (none refl))
       (subst (LedTo table entries h low p automaton at y) (none refl) led)
 
-  module _ (y : ℕ) (best : Option (Origin × ℕ))
+  module _ (y : ℕ) (best : Option (MatchStart × ℕ))
       (to : LedTo table entries h low p automaton at y best) where
-    pub scanned_on : (next : Here) (end first idle : ℕ) → IsHere h (p + 1) next
+    pub scanned_on : (next : Here) (end first in_start : ℕ) → IsHere h (p + 1) next
         → next.at ≡ end → IsFirstAfter to.state at.at end at.first first →
         IsScanning table entries h low (p + 1) automaton
-        (record { at = end; state = y; first = first; idle_at = idle; best = best })
-    scanned_on next end first idle is there told = let later = scanning.later in record {
+        (record { at = end; state = y; first = first; start_state_at = in_start; best = best })
+    scanned_on next end first in_start is there reported = let later = scanning.later in record {
       state = to.state;
       is_state = to.is_state;
       here = next;
       is = is;
       there = there;
       later = omega (arith, later);
-      own = own told;
+      own = own reported;
       suits = to.suits;
-      sees = λ looks. ap side_of (next_before h p next is) ∙ to.sees looks;
+      sees = λ looks. ap context_of (next_before h p next is) ∙ to.sees looks;
       coming =
-          subst (λ z. IsComing table h entries low (length h) (p + 1) z (best_told best))
+          subst (λ z. IsComing table h entries low (length h) (p + 1) z (best_reported best))
           (same_threads (first_left to.state.restarts at.first at.at) first to.state.ways
-          (firsts told)) to.coming;
+          (firsts reported)) to.coming;
     }
       where
         own : IsFirstAfter to.state at.at end at.first first
@@ -204,17 +215,17 @@ module _ (table : List (Place ℕ)) (entries : List ℕ) (h : Text) (low p : ℕ
         firsts (inr (some, e)) = inr e
 
     pub scan_over : (here : Here) → IsHere h p here
-        → ((here.after ≡ None) ⊎ ((best_told best ≡ None → ⊥) × (to.state.ways ≡ [])))
-        → IsBestOutcomeOf table h entries low (best_told best)
+        → ((here.after ≡ None) ⊎ ((best_reported best ≡ None → ⊥) × (to.state.ways ≡ [])))
+        → IsBestOutcomeOf table h entries low (best_reported best)
     scan_over here is over =
         ended_all table h entries low p
         (threads_of (first_left to.state.restarts at.first at.at) to.state.ways)
-        (best_told best)
+        (best_reported best)
         scanning.later scanning.is.inside (at_end (over_at h p here is over)) to.coming
       where
-        at_end : ((p ≡ length h) ⊎ ((best_told best ≡ None → ⊥) × (to.state.ways ≡ [])))
+        at_end : ((p ≡ length h) ⊎ ((best_reported best ≡ None → ⊥) × (to.state.ways ≡ [])))
             → (p ≡ length h)
-            ⊎ ((best_told best ≡ None → ⊥) × (length (threads_of
+            ⊎ ((best_reported best ≡ None → ⊥) × (length (threads_of
             (first_left to.state.restarts at.first at.at) to.state.ways) ≡ 0))
         at_end (inl e) = inl e
         at_end (inr (some, e)) = inr (
@@ -225,27 +236,27 @@ module _ (table : List (Place ℕ)) (entries : List ℕ) (h : Text) (low p : ℕ
 
   -- positions are passed over at which no match can begin
   module _ (here : Here) (passes : PassesTo (AreDeadAt table h entries) h p here)
-      (idle : scanning.state.ways ≡ []) (none : best_told at.best ≡ None) where
-    pub idle_there : IsComing table h entries low (length h) passes.q [] None
-    idle_there =
+      (in_start : scanning.state.ways ≡ []) (none : best_reported at.best ≡ None) where
+    pub start_state_there : IsComing table h entries low (length h) passes.q [] None
+    start_state_there =
         jumped table h entries low (length h) p passes.q [] refl passes.later passes.passed
         (subst (λ z. IsComing table h entries low (length h) p [] z) none
         (subst (λ ways. IsComing table h entries low (length h) p (threads_of at.first ways)
-        (best_told at.best)) idle scanning.coming))
+        (best_reported at.best)) in_start scanning.coming))
 
-    pub is_idle : IsIdleAt table entries h low p here.at
-    is_idle = record {
+    pub is_start_state : IsStartStateAt table entries h low p here.at
+    is_start_state = record {
       r = passes.q;
       later = passes.later;
       is = (passes.is.inside, passes.is.bytes);
-      coming = idle_there;
+      coming = start_state_there;
     }
 
     pub skipped : (x : ℕ) (state : State) → slice_get automaton.states x ≡ Some state
         → state.ways ≡ [] → state.searching ≡ true
-        → (automaton.intervals.looks ≡ true → state.before ≡ side_of here.before) →
+        → (automaton.intervals.looks ≡ true → state.before ≡ context_of here.before) →
         IsScanning table entries h low passes.q automaton
-        (record { at = here.at; state = x; first = here.at; idle_at = here.at; best = None })
+        (record { at = here.at; state = x; first = here.at; start_state_at = here.at; best = None })
     skipped x state x_at empty searching sees =
         let later = scanning.later in let more = passes.later in record {
           state = state;
@@ -261,12 +272,12 @@ module _ (table : List (Place ℕ)) (entries : List ℕ) (h : Text) (low p : ℕ
               subst
               (λ ways.
               IsComing table h entries low (length h) passes.q (threads_of here.at ways) None)
-              (sym empty) idle_there;
+              (sym empty) start_state_there;
         }
 
 -- at the end of the haystack there is no match
 pub end_none : (table : List (Place ℕ)) (entries : List ℕ) (h : Text) (low p : ℕ)
-    (automaton : Automaton) (at : Standing)
+    (automaton : Automaton) (at : DfaPosition)
     → IsScanning table entries h low p automaton at → at.best ≡ None → (y : ℕ)
     → LedTo table entries h low p automaton at y None → (here : Here) → IsHere h p here →
     here.after ≡ None → IsNumberedEndOf table h entries low None
@@ -277,34 +288,34 @@ end_none table entries h low p automaton at scanning none y to here is last =
     is.bytes (inl refl)
     (over_at {Q = None ≡ None → ⊥} h p here is (inl last))
     (subst (λ b. IsComing table h entries low (length h) p (threads_of at.first scanning.state.ways)
-    (best_told b)) none scanning.coming) to.coming
+    (best_reported b)) none scanning.coming) to.coming
 
 module _ (table : List (Place ℕ)) (entries : List ℕ) (h : Text) (low p : ℕ) (automaton : Automaton)
-    (at : Standing) (y : ℕ) where
+    (at : DfaPosition) (y : ℕ) where
   -- the search goes on after the turn
-  pub leads_on : (earliest : Bool) (best : Option (Origin × ℕ)) → (earliest ≡ true → best ≡ None)
-      → EndsOrLeads table entries h low p automaton earliest at y best
-      → LedTo table entries h low p automaton at y best
+  pub leads_on : (earliest : Bool) (best : Option (MatchStart × ℕ))
+      → (earliest ≡ true → best ≡ None) → EndsOrLeads table entries h low p automaton earliest at y
+      best → LedTo table entries h low p automaton at y best
   leads_on false best none led = led
   leads_on true None none led = led
   leads_on true (Some found) none led = absurd (not_there (sym (none refl)))
 
   -- it is over after the turn
   pub scan_found : (here : Here) → IsHere h p here → (earliest : Bool)
-      (best : Option (Origin × ℕ))
+      (best : Option (MatchStart × ℕ))
       → IsScanning table entries h low p automaton at → (earliest ≡ true → at.best ≡ None)
       → EndsOrLeads table entries h low p automaton earliest at y best
       → ((state : State) → slice_get automaton.states y ≡ Some state → earliest ≡ false
-      → (here.after ≡ None) ⊎ ((best_told best ≡ None → ⊥) × (state.ways ≡ [])))
+      → (here.after ≡ None) ⊎ ((best_reported best ≡ None → ⊥) × (state.ways ≡ [])))
       → (here.after ≡ None) ⊎ (best ≡ None → ⊥)
-      → IsFoundOf earliest table h entries low (best_told best)
+      → IsFoundOf earliest table h entries low (best_reported best)
   scan_found here is false best scanning none led over known =
       scan_over table entries h low p automaton at scanning y best led here is
       (over led.state led.is_state refl)
   scan_found here is true None scanning none led over known =
       end_none table entries h low p automaton at scanning (none refl) y led here is (last known)
     where
-      last : {found : Option (Origin × ℕ)} → (here.after ≡ None) ⊎ (found ≡ found → ⊥)
+      last : {found : Option (MatchStart × ℕ)} → (here.after ≡ None) ⊎ (found ≡ found → ⊥)
           → here.after ≡ None
       last (inl e) = e
       last (inr some) = absurd (some refl)
@@ -317,17 +328,17 @@ pub preferred : (table : List (Place ℕ)) (h : Text) (entries : List ℕ) (s : 
 preferred table h entries s best false never is = is
 preferred table h entries s best true never is = absurd (never refl)
 
-pub some_kept : (found : Option (Origin × ℕ)) (row : Row)
+pub some_kept : (found : Option (MatchStart × ℕ)) (row : Row)
     → is_some found ≡ is_some (option_map (λ best. best.1) (best_kept found row))
 some_kept None row = refl
 some_kept (Some found) row = refl
 
-pub none_found : {best : Best} (found : Option (Origin × ℕ)) (row : Row)
+pub none_found : {best : Best} (found : Option (MatchStart × ℕ)) (row : Row)
     → best ≡ best_kept found row → best ≡ None → found ≡ None
 none_found None row is none = refl
 none_found (Some found) row is none = absurd (not_there (sym none ∙ is))
 
-pub best_none : (best : Option (Origin × ℕ)) (told : Bool) → told ≡ is_some best → told ≡ false
-    → best_told best ≡ None
-best_none None told e f = refl
-best_none (Some b) told e f = absurd cc
+pub best_none : (best : Option (MatchStart × ℕ)) (reported : Bool) → reported ≡ is_some best
+    → reported ≡ false → best_reported best ≡ None
+best_none None reported e f = refl
+best_none (Some b) reported e f = absurd cc

@@ -2,20 +2,20 @@
 use Rattle.regex_lite_meta.proofs.Common.{◌≡◌, ℕ, ◌+◌, ◌≤◌, Bool, true, false, ◌⊎◌, List, [], None}
 use Rattle.regex_lite_meta.proofs.Common.{Option, MatchOption, sym, refl, ap, ◌∙◌, subst, arith}
 use Rattle.regex_lite_meta.proofs.Common.{nil_from_length, Text, arrows_of, Thread, best_of}
-use Rattle.regex_lite_meta.proofs.Common.{AreDeadAt, PassesTo, Origin, Cache, Here, Automaton}
+use Rattle.regex_lite_meta.proofs.Common.{AreDeadAt, PassesTo, MatchStart, Cache, Here, Automaton}
 use Rattle.regex_lite_meta.proofs.Common.{threads_of, ways_of, Suits, IsFirstStart, IsIn}
-use Rattle.regex_lite_meta.proofs.Common.{IsOnItsWay, Stands, best_told, IsScanning, ◌∷◌, length}
-use Rattle.regex_lite_meta.proofs.Common.{Some, IsFoundOf, IsComing, best_kept}
+use Rattle.regex_lite_meta.proofs.Common.{IsOnItsWay, Stands, best_reported, IsScanning, ◌∷◌}
+use Rattle.regex_lite_meta.proofs.Common.{length, Some, IsFoundOf, IsComing, best_kept}
 use Rattle.regex_lite_engine.specs.Graph.Parts.{IsOwnPart, row_of}
 use Rattle.regex_lite_engine.specs.Graph.Places.{Place}
 use Rattle.regex_lite_meta.specs.LazyDfa.Automaton.{IsEmptyState}
 use Rattle.regex_lite_engine.specs.Search.Bounds.{IsBoundedBy}
 use Rattle.regex_lite_engine.specs.declared.search.patterns.Start.{Start}
-use Rattle.regex_lite_meta.specs.declared.lazy_dfa.run.Progress.{Progress}
-use Rattle.regex_lite_meta.specs.LazyDfa.Learning.{HasTurned}
+use Rattle.regex_lite_meta.specs.declared.lazy_dfa.run.Position.{Position}
+use Rattle.regex_lite_meta.specs.LazyDfa.Determinizing.{HasStepped}
 use Rattle.regex_lite_meta.specs.LazyDfa.Running.{started_at}
-use Rattle.regex_lite_engine.specs.Pikevm.Searching.{IsHit, TurnsAgain}
-use Rattle.regex_lite_engine.specs.Pikevm.Turns.{EndsAt}
+use Rattle.regex_lite_engine.specs.Pikevm.Searching.{IsMatchFlag, StepsAgain}
+use Rattle.regex_lite_engine.specs.Pikevm.Stepping.{EndsAt}
 use Rattle.regex_lite_engine.specs.Search.Starts.{AreAllStarts}
 use Rattle.regex_lite_meta.proofs.lazy_dfa.AnewLemmas.{found_from}
 use Rattle.regex_lite_meta.proofs.lazy_dfa.RestartLemmas.{none_began}
@@ -26,17 +26,17 @@ use Rattle.regex_lite_engine.proofs.pikevm.StopLemmas.{done_after, done_found}
 use Rattle.regex_lite_engine.proofs.search.list_patterns.ListStartLemmas.{starts_at}
 
 module _ {table : List (Place ℕ)} {h : Text} {entries : List ℕ} {s : ℕ} {automaton : Automaton}
-    {at : Progress} {S : Type 0} {cache : Cache S}
+    {at : Position} {S : Type 0} {cache : Cache S}
     (stands : Stands table h entries s automaton at cache) where
   -- where its state is known, it may go by remembered turns
-  scanning_there : {x : ℕ} → at.state ≡ Some x → (best : Option (Origin × ℕ))
-      → best_of cache.best ≡ best_told best → IsScanning table entries h stands.from stands.p
+  scanning_there : {x : ℕ} → at.state ≡ Some x → (best : Option (MatchStart × ℕ))
+      → best_of cache.best ≡ best_reported best → IsScanning table entries h stands.from stands.p
       automaton
       (record {
         at = at.here.at;
         state = x;
         first = at.first;
-        idle_at = at.first;
+        start_state_at = at.first;
         best = best;
       })
   scanning_there {x} known best same = record {
@@ -52,10 +52,10 @@ module _ {table : List (Place ℕ)} {h : Text} {entries : List ℕ} {s : ℕ} {a
     coming =
         subst (λ ways. IsComing table h entries stands.from (length h) stands.p (threads_of at.first
         ways)
-        (best_told best)) is_in.ways
+        (best_reported best)) is_in.ways
         (coming_less at.first table h entries stands.from (length h) stands.p
         cache.walk.memory.threads
-        (best_told best)
+        (best_reported best)
         (subst (IsComing table h entries stands.from (length h) stands.p cache.walk.memory.threads)
         same
         stands.on.coming));
@@ -73,24 +73,24 @@ module _ {table : List (Place ℕ)} {h : Text} {entries : List ℕ} {s : ℕ} {a
       first_of (t ∷ ts) own none = absurd cc
 
   -- no slots are kept
-  told_there : (best : Option (Origin × ℕ))
-      → best_of cache.best ≡ best_kept best cache.best.row → best_of cache.best ≡ best_told best
-  told_there best same =
+  reported_there : (best : Option (MatchStart × ℕ))
+      → best_of cache.best ≡ best_kept best cache.best.row → best_of cache.best ≡ best_reported best
+  reported_there best same =
       same
       ∙ ap (best_kept best)
       (nil_from_length cache.best.row (stands.on.ready.best_width ∙ stands.on.width))
 
-  pub scans_there : {x : ℕ} → at.state ≡ Some x → (best : Option (Origin × ℕ))
+  pub scans_there : {x : ℕ} → at.state ≡ Some x → (best : Option (MatchStart × ℕ))
       → best_of cache.best ≡ best_kept best cache.best.row → IsScanning table entries h stands.from
       stands.p automaton
       (record {
         at = at.here.at;
         state = x;
         first = at.first;
-        idle_at = at.first;
+        start_state_at = at.first;
         best = best;
       })
-  scans_there known best same = scanning_there known best (told_there best same)
+  scans_there known best same = scanning_there known best (reported_there best same)
 
   pub bounded_there : (now : Cache S) → now ≡ cache →
       IsBoundedBy (length table) (arrows_of table + length entries) h s now.walk.steps.tried
@@ -175,26 +175,26 @@ module _ {table : List (Place ℕ)} {h : Text} {entries : List ℕ} {s : ℕ} {a
         done) on.coming)
 
     -- the turn was taken from its state, if that is known
-    pub turned_there : {starts : List Start} (hit : Bool) → AreAllStarts table entries starts
-        → TurnsAgain table starts at.here (started_at at.here.at) cache new hit
-        → IsHit hit (best_of cache.best) (best_of new.best) →
+    pub stepped_there : {starts : List Start} (match_flag : Bool) → AreAllStarts table entries
+        starts → StepsAgain table starts at.here (started_at at.here.at) cache new match_flag
+        → IsMatchFlag match_flag (best_of cache.best) (best_of new.best) →
         MatchOption at.state (Unit {0})
-        (λ x. HasTurned table entries automaton x at.first at.here hit new)
-    turned_there {starts} hit all again is_hit = by_state at.state stands.state
+        (λ x. HasStepped table entries automaton x at.first at.here match_flag new)
+    stepped_there {starts} match_flag all again is_match_flag = by_state at.state stands.state
       where
         by_state : (state : Option ℕ)
             → MatchOption state (Unit {0}) (λ x. IsIn automaton x at.first at.here.before cache) →
             MatchOption state (Unit {0})
-            (λ x. HasTurned table entries automaton x at.first at.here hit new)
+            (λ x. HasStepped table entries automaton x at.first at.here match_flag new)
         by_state None known = tt
         by_state (Some x) known = record {
           before = cache;
           starts = starts;
-          told = started_at at.here.at;
+          reported = started_at at.here.at;
           is_in = known;
           again = again;
-          is_hit = is_hit;
-          tells = λ number. record { start_told = refl; number_told = refl };
+          is_match_flag = is_match_flag;
+          tells = λ number. record { start_reported = refl; number_reported = refl };
           is_first = stands.own;
           earlier = λ none.
               none_began table entries h stands.p at.here stands.is stands.from (length h)

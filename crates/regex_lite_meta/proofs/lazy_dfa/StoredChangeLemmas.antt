@@ -5,13 +5,13 @@ use Rattle.regex_lite_meta.proofs.Common.{slice_index, slice_set, Some, None, Op
 use Rattle.regex_lite_meta.proofs.Common.{◌∙◌, arith, suc-mul, length-take-le, nil_from_length, Way}
 use Rattle.regex_lite_meta.proofs.Common.{Automaton, unknown, Extends, Intervals, classes_in}
 use Rattle.regex_lite_meta.proofs.Common.{way_in, number_of, state_in, StoredState, StoredWay}
-use Rattle.regex_lite_meta.proofs.Common.{Target, false, true≢false}
-use Rattle.regex_lite_meta.specs.LazyDfa.Stored.{Agrees, LieWithin, is_known, known_hit, last_hit}
-use Rattle.regex_lite_meta.specs.LazyDfa.Stored.{states_in, AllAgree, HasNoWays}
+use Rattle.regex_lite_meta.proofs.Common.{NextState, false, true≢false}
+use Rattle.regex_lite_meta.specs.LazyDfa.Stored.{Agrees, LieWithin, is_known, known_match_flag}
+use Rattle.regex_lite_meta.specs.LazyDfa.Stored.{last_match_flag, states_in, AllAgree, HasNoWays}
 use Rattle.regex_lite_meta.specs.LazyDfa.Stored.{HasWays}
 use Rattle.std.proofs.Math.Seq.{drop-length, take-length, take-set-lt}
 use Rattle.regex_lite_meta.specs.declared.lazy_dfa.state.LookContext.{LookContext}
-use Rattle.regex_lite_meta.specs.LazyDfa.Automaton.{KeptOrigin, State}
+use Rattle.regex_lite_meta.specs.LazyDfa.Automaton.{State, StoredStart}
 use Rattle.std.proofs.Common.{replicate, length-append, length-drop}
 use Rattle.std.proofs.lemmas.List.{length-replicate, take-append-le, drop-append-le}
 use Rattle.std.proofs.lemmas.List.{get_or-replicate, map-append, map-set, take-append-drop}
@@ -31,95 +31,96 @@ part_same from len xs ys fits =
 
 -- states stay what they are when ways are added
 pub states_same : (states : List StoredState) (used : ℕ) (ways more : List StoredWay)
-    (classes : ℕ) (targets : List Target)
+    (classes : ℕ) (next_states : List NextState)
     → LieWithin used states → used ≤ length ways →
-    states_in (ways ++ more) classes targets states ≡ states_in ways classes targets states
-states_same [] used ways more classes targets within fits = refl
-states_same (s ∷ states) used ways more classes targets within fits =
+    states_in (ways ++ more) classes next_states states ≡ states_in ways classes next_states states
+states_same [] used ways more classes next_states within fits = refl
+states_same (s ∷ states) used ways more classes next_states within fits =
     let own = within 0 s (omega arith) in
     ap (λ part. record {
       ways = map way_in part;
       searching = s.searching;
       before = s.before;
-      hit = (state_in ways [] s).hit;
+      match_flag = (state_in ways [] s).match_flag;
       restarts = s.restarts;
-      next = map number_of (take classes targets);
-    } ∷ states_in (ways ++ more) classes (drop classes targets) states)
+      next = map number_of (take classes next_states);
+    } ∷ states_in (ways ++ more) classes (drop classes next_states) states)
     (part_same s.from s.len ways more (omega (arith, own, fits)))
-    ∙ ap (λ rest. state_in ways (take classes targets) s ∷ rest)
-    (states_same states used ways more classes (drop classes targets)
+    ∙ ap (λ rest. state_in ways (take classes next_states) s ∷ rest)
+    (states_same states used ways more classes (drop classes next_states)
     (λ k d lt. within (suc k) d (omega (arith, lt))) fits)
 
 -- nor do they need what is after those that they have
 pub states_cut : (states : List StoredState) (used : ℕ) (ways : List StoredWay)
-    (classes : ℕ) (targets : List Target)
+    (classes : ℕ) (next_states : List NextState)
     → LieWithin used states → used ≤ length ways →
-    states_in (take used ways) classes targets states ≡ states_in ways classes targets states
-states_cut states used ways classes targets within fits =
-    sym (states_same states used (take used ways) (drop used ways) classes targets within
+    states_in (take used ways) classes next_states states ≡ states_in ways classes next_states
+    states
+states_cut states used ways classes next_states within fits =
+    sym (states_same states used (take used ways) (drop used ways) classes next_states within
     (let n = length-take-le used ways fits in omega (arith, n)))
-    ∙ ap (λ all. states_in all classes targets states) (take-append-drop used ways)
+    ∙ ap (λ all. states_in all classes next_states states) (take-append-drop used ways)
 
 -- one more state has the row of targets that is added
 pub states_added : (states : List StoredState) (ways : List StoredWay) (classes : ℕ)
-    (targets more : List Target) (s : StoredState)
-    → length targets ≡ length states * classes → length more ≡ classes →
-    states_in ways classes (targets ++ more) (states ++ s ∷ [])
-    ≡ states_in ways classes targets states ++ state_in ways more s ∷ []
-states_added [] ways classes targets more s full len =
-    let none : targets ≡ [] = nil_from_length targets (omega (arith, full)) in
+    (next_states more : List NextState) (s : StoredState)
+    → length next_states ≡ length states * classes → length more ≡ classes →
+    states_in ways classes (next_states ++ more) (states ++ s ∷ [])
+    ≡ states_in ways classes next_states states ++ state_in ways more s ∷ []
+states_added [] ways classes next_states more s full len =
+    let none : next_states ≡ [] = nil_from_length next_states (omega (arith, full)) in
     ap (λ ts. state_in ways (take classes (ts ++ more)) s ∷ []) none
     ∙ ap (λ n. state_in ways (take n more) s ∷ []) (sym len)
     ∙ ap (λ ts. state_in ways ts s ∷ []) (take-length more)
-states_added (t ∷ states) ways classes targets more s full len =
+states_added (t ∷ states) ways classes next_states more s full len =
     let own = suc-mul (length states) classes in
-    let fits : classes ≤ length targets = omega (arith, full, own) in
+    let fits : classes ≤ length next_states = omega (arith, full, own) in
     ap (λ ts. state_in ways ts t
-    ∷ states_in ways classes (drop classes (targets ++ more)) (states ++ s ∷ []))
-    (take-append-le classes targets more fits)
-    ∙ ap (λ ts. state_in ways (take classes targets) t
+    ∷ states_in ways classes (drop classes (next_states ++ more)) (states ++ s ∷ []))
+    (take-append-le classes next_states more fits)
+    ∙ ap (λ ts. state_in ways (take classes next_states) t
     ∷ states_in ways classes ts (states ++ s ∷ []))
-    (drop-append-le classes targets more fits)
-    ∙ ap (λ rest. state_in ways (take classes targets) t ∷ rest)
-    (states_added states ways classes (drop classes targets) more s
-    (let n = length-drop classes targets in omega (arith, n, full, own)) len)
+    (drop-append-le classes next_states more fits)
+    ∙ ap (λ rest. state_in ways (take classes next_states) t ∷ rest)
+    (states_added states ways classes (drop classes next_states) more s
+    (let n = length-drop classes next_states in omega (arith, n, full, own)) len)
 
 -- a turn is remembered
 pub states_set : (states : List StoredState) (ways : List StoredWay) (classes : ℕ)
-    (targets : List Target) (x class k : ℕ) (t : Target) (state : State)
+    (next_states : List NextState) (x class k : ℕ) (t : NextState) (state : State)
     → k ≡ x * classes + class → class < classes →
-    slice_get (states_in ways classes targets states) x ≡ Some state →
-    states_in ways classes (slice_set targets k t) states
-    ≡ slice_set (states_in ways classes targets states) x
+    slice_get (states_in ways classes next_states states) x ≡ Some state →
+    states_in ways classes (slice_set next_states k t) states
+    ≡ slice_set (states_in ways classes next_states states) x
     (record state { next = slice_set state.next class (number_of t) })
-states_set [] ways classes targets x class k t state e lt at = absurd (not_there at)
-states_set (s ∷ states) ways classes targets zero class k t state e lt at =
+states_set [] ways classes next_states x class k t state e lt at = absurd (not_there at)
+states_set (s ∷ states) ways classes next_states zero class k t state e lt at =
     let here : k ≡ class = omega (arith, e) in
     let inside : k < classes = omega (arith, here, lt) in
-    let own : state_in ways (take classes targets) s ≡ state = same_some at in
-    ap (λ ts. state_in ways ts s ∷ states_in ways classes (drop classes (slice_set targets k t))
-    states) (take-set-lt classes targets k t inside)
-    ∙ ap (λ ts. state_in ways (slice_set (take classes targets) k t) s
-    ∷ states_in ways classes ts states) (drop-set-lt classes targets k t inside)
-    ∙ ap (λ j. state_in ways (slice_set (take classes targets) j t) s
-    ∷ states_in ways classes (drop classes targets) states) here
-    ∙ ap (λ next. record (state_in ways (take classes targets) s) { next = next }
-    ∷ states_in ways classes (drop classes targets) states)
-    (map-set number_of (take classes targets) class t)
+    let own : state_in ways (take classes next_states) s ≡ state = same_some at in
+    ap (λ ts. state_in ways ts s ∷ states_in ways classes (drop classes (slice_set next_states k t))
+    states) (take-set-lt classes next_states k t inside)
+    ∙ ap (λ ts. state_in ways (slice_set (take classes next_states) k t) s
+    ∷ states_in ways classes ts states) (drop-set-lt classes next_states k t inside)
+    ∙ ap (λ j. state_in ways (slice_set (take classes next_states) j t) s
+    ∷ states_in ways classes (drop classes next_states) states) here
+    ∙ ap (λ next. record (state_in ways (take classes next_states) s) { next = next }
+    ∷ states_in ways classes (drop classes next_states) states)
+    (map-set number_of (take classes next_states) class t)
     ∙ ap (λ (z : State). record z { next = slice_set z.next class (number_of t) }
-    ∷ states_in ways classes (drop classes targets) states) own
-states_set (s ∷ states) ways classes targets (suc x) class k t state e lt at =
+    ∷ states_in ways classes (drop classes next_states) states) own
+states_set (s ∷ states) ways classes next_states (suc x) class k t state e lt at =
     let own = suc-mul x classes in
     let there : k ≡ classes + (x * classes + class) = omega (arith, e, own) in
     let past : classes ≤ k = omega (arith, there) in
-    ap (λ ts. state_in ways ts s ∷ states_in ways classes (drop classes (slice_set targets k t))
-    states) (take-set-le classes targets k t past)
-    ∙ ap (λ j. state_in ways (take classes targets) s
-    ∷ states_in ways classes (drop classes (slice_set targets j t)) states) there
-    ∙ ap (λ ts. state_in ways (take classes targets) s ∷ states_in ways classes ts states)
-    (drop-set-add classes targets (x * classes + class) t)
-    ∙ ap (λ rest. state_in ways (take classes targets) s ∷ rest)
-    (states_set states ways classes (drop classes targets) x class (x * classes + class) t state
+    ap (λ ts. state_in ways ts s ∷ states_in ways classes (drop classes (slice_set next_states k t))
+    states) (take-set-le classes next_states k t past)
+    ∙ ap (λ j. state_in ways (take classes next_states) s
+    ∷ states_in ways classes (drop classes (slice_set next_states j t)) states) there
+    ∙ ap (λ ts. state_in ways (take classes next_states) s ∷ states_in ways classes ts states)
+    (drop-set-add classes next_states (x * classes + class) t)
+    ∙ ap (λ rest. state_in ways (take classes next_states) s ∷ rest)
+    (states_set states ways classes (drop classes next_states) x class (x * classes + class) t state
     refl lt at)
 
 -- what is pending has one way more
@@ -130,24 +131,24 @@ pending_more used ways way fits =
     ∙ map-append way_in (drop used ways) (way ∷ [])
 
 module _ (intervals : Intervals) (reach : Option ℕ) (states : List StoredState)
-    (targets : List Target) (used : ℕ) (ways : List StoredWay) (within : LieWithin used states)
-    (fits : used ≤ length ways) where
+    (next_states : List NextState) (used : ℕ) (ways : List StoredWay)
+    (within : LieWithin used states) (fits : used ≤ length ways) where
   abbrev now : List State
-  now = states_in ways (classes_in intervals) targets states
+  now = states_in ways (classes_in intervals) next_states states
 
-  pub seen_pushed : (automaton : Automaton) → seen intervals reach states targets used ways ≡
+  pub seen_pushed : (automaton : Automaton) → seen intervals reach states next_states used ways ≡
       automaton
       → (way : StoredWay) (more : List StoredWay) → more ≡ ways ++ way ∷ [] →
-      seen intervals reach states targets used more
+      seen intervals reach states next_states used more
       ≡ record automaton { pending = automaton.pending ++ way_in way ∷ [] }
   seen_pushed automaton view way more e =
-      ap (seen intervals reach states targets used) e
+      ap (seen intervals reach states next_states used) e
       ∙ ap (λ ss. record {
         intervals = intervals;
         reach = reach;
         states = ss;
         pending = map way_in (drop used (ways ++ way ∷ []));
-      }) (states_same states used ways (way ∷ []) (classes_in intervals) targets within fits)
+      }) (states_same states used ways (way ∷ []) (classes_in intervals) next_states within fits)
       ∙ ap (λ more. record {
         intervals = intervals;
         reach = reach;
@@ -158,20 +159,20 @@ module _ (intervals : Intervals) (reach : Option ℕ) (states : List StoredState
       ∙ ap (λ (z : Automaton). record z { pending = z.pending ++ way_in way ∷ [] }) view
 
   pub seen_cut : (less : List StoredWay) → less ≡ take used ways →
-      seen intervals reach states targets used less ≡ record {
+      seen intervals reach states next_states used less ≡ record {
         intervals = intervals;
         reach = reach;
-        states = states_in ways (classes_in intervals) targets states;
+        states = states_in ways (classes_in intervals) next_states states;
         pending = [];
       }
   seen_cut less e =
-      ap (seen intervals reach states targets used) e
+      ap (seen intervals reach states next_states used) e
       ∙ ap (λ ss. record {
         intervals = intervals;
         reach = reach;
         states = ss;
         pending = map way_in (drop used (take used ways));
-      }) (states_cut states used ways (classes_in intervals) targets within fits)
+      }) (states_cut states used ways (classes_in intervals) next_states within fits)
       ∙ ap (λ none. record {
         intervals = intervals;
         reach = reach;
@@ -188,14 +189,14 @@ module _ (intervals : Intervals) (reach : Option ℕ) (states : List StoredState
   -- a state has all that was pending
   pub seen_added : (s : StoredState) → s.from ≡ used → s.len ≡ length ways - used
       → (all : List StoredState) → all ≡ states ++ s ∷ []
-      → (rows more : List Target) → rows ≡ targets ++ more
-      → length targets ≡ length states * classes_in intervals
+      → (rows more : List NextState) → rows ≡ next_states ++ more
+      → length next_states ≡ length states * classes_in intervals
       → length more ≡ classes_in intervals →
       seen intervals reach all rows (length ways) ways ≡ record {
         intervals = intervals;
         reach = reach;
         states =
-            states_in ways (classes_in intervals) targets states
+            states_in ways (classes_in intervals) next_states states
             ++ record (state_in ways more s) { ways = map way_in (drop used ways) } ∷ [];
         pending = [];
       }
@@ -207,7 +208,7 @@ module _ (intervals : Intervals) (reach : Option ℕ) (states : List StoredState
         reach = reach;
         states = ss;
         pending = map way_in (drop (length ways) ways);
-      }) (states_added states ways (classes_in intervals) targets more s full row)
+      }) (states_added states ways (classes_in intervals) next_states more s full row)
       ∙ ap (λ own. record {
         intervals = intervals;
         reach = reach;
@@ -230,7 +231,7 @@ module _ (intervals : Intervals) (reach : Option ℕ) (states : List StoredState
 -- the added state, beside those that there were
 pub added_is : (old new : Automaton) (state : State)
     → new ≡ record old { states = old.states ++ state ∷ []; pending = [] } →
-    IsState new (length old.states) state.ways state.searching state.before state.hit
+    IsState new (length old.states) state.ways state.searching state.before state.match_flag
     state.restarts
 added_is old new state e = record {
   state = state;
@@ -240,7 +241,7 @@ added_is old new state e = record {
   ways = refl;
   searching = refl;
   before = refl;
-  hit = refl;
+  match_flag = refl;
   restarts = refl;
 }
 
@@ -271,9 +272,10 @@ added_extends old new state e own none = record {
     fresh_one (t ∷ states) (suc x) s at other = fresh_one states x s at other
 
 -- a state with ways is one still when states are added
-pub has_ways_still : (states more : List StoredState) (y : ℕ) (hit : Option KeptOrigin)
-    (restarts : Bool) → HasWays states y hit restarts → HasWays (states ++ more) y hit restarts
-has_ways_still states more y hit restarts own = record {
+pub has_ways_still : (states more : List StoredState) (y : ℕ) (match_flag : Option StoredStart)
+    (restarts : Bool) → HasWays states y match_flag restarts → HasWays (states ++ more) y match_flag
+    restarts
+has_ways_still states more y match_flag restarts own = record {
   state = own.state;
   is_state = still_there states more y own.state own.is_state;
   some = own.some;
@@ -282,9 +284,9 @@ has_ways_still states more y hit restarts own = record {
 }
 
 -- nor does a state without ways get any
-pub no_ways_still : (states more : List StoredState) (y : ℕ) (hit : Option KeptOrigin)
-    → HasNoWays states y hit → HasNoWays (states ++ more) y hit
-no_ways_still states more y hit own = record {
+pub no_ways_still : (states more : List StoredState) (y : ℕ) (match_flag : Option StoredStart)
+    → HasNoWays states y match_flag → HasNoWays (states ++ more) y match_flag
+no_ways_still states more y match_flag own = record {
   state = own.state;
   is_state = still_there states more y own.state own.is_state;
   none = own.none;
@@ -292,27 +294,29 @@ no_ways_still states more y hit own = record {
 }
 
 -- and all effects that are known are still right when a blank row is added
-pub agree_added : (states more : List StoredState) (targets : List Target) (n : ℕ)
-    (classes : ℕ) (blank : Target)
-    → is_known blank.effect ≡ false → known_hit blank.effect ≡ None
-    → last_hit blank.effect ≡ None
-    → AllAgree states classes targets
-    → AllAgree (states ++ more) classes (targets ++ replicate n blank)
-agree_added states more targets n classes blank free none last agree =
-    All-append (Agrees (states ++ more) classes) targets (replicate n blank)
+pub agree_added : (states more : List StoredState) (next_states : List NextState) (n : ℕ)
+    (classes : ℕ) (blank : NextState)
+    → is_known blank.kind ≡ false → known_match_flag blank.kind ≡ None
+    → last_match_flag blank.kind ≡ None
+    → AllAgree states classes next_states
+    → AllAgree (states ++ more) classes (next_states ++ replicate n blank)
+agree_added states more next_states n classes blank free none last agree =
+    All-append (Agrees (states ++ more) classes) next_states (replicate n blank)
     (λ k d lt. let own = agree k d lt in record {
       row = own.row;
-      within = λ told.
-          let inside = own.within told in
+      within = λ reported.
+          let inside = own.within reported in
           let m = length-append states more in omega (arith, inside, m);
-      effect = λ hit told. has_ways_still states more _ hit _ (own.effect hit told);
-      ends = λ hit told. no_ways_still states more _ hit (own.ends hit told);
+      kind = λ match_flag reported. has_ways_still states more _ match_flag _
+          (own.kind match_flag reported);
+      ends = λ match_flag reported. no_ways_still states more _ match_flag
+          (own.ends match_flag reported);
     })
     (All-replicate (Agrees (states ++ more) classes) n blank (record {
-      row = λ told. absurd (true≢false (sym told ∙ free));
-      within = λ told. absurd (true≢false (sym told ∙ free));
-      effect = λ hit told. absurd (not_there (sym none ∙ told));
-      ends = λ hit told. absurd (not_there (sym last ∙ told));
+      row = λ reported. absurd (true≢false (sym reported ∙ free));
+      within = λ reported. absurd (true≢false (sym reported ∙ free));
+      kind = λ match_flag reported. absurd (not_there (sym none ∙ reported));
+      ends = λ match_flag reported. absurd (not_there (sym last ∙ reported));
     }))
 
 -- a state more lies within, if it has the ways that were pending
@@ -326,8 +330,8 @@ within_added states used len s within fits from own =
     (omega (arith, from, own, fits)))
 
 -- no turn is known from a blank row
-pub blank_row : (classes class : ℕ) (blank : Target) → number_of blank ≡ unknown → class < classes
-    → slice_index (map number_of (replicate classes blank)) class
+pub blank_row : (classes class : ℕ) (blank : NextState) → number_of blank ≡ unknown → class
+    < classes → slice_index (map number_of (replicate classes blank)) class
     ≡ unknown
 blank_row classes class blank none lt =
     get_or-map number_of (replicate classes blank) class blank 0
@@ -356,15 +360,15 @@ extends_pending old new pending extends = record {
 
 -- and a state is the same
 pub is_state_pending : (automaton : Automaton) (pending all : List Way) (y : ℕ)
-    (searching : Bool) (before : LookContext) (hit : Option KeptOrigin) (restarts : Bool)
-    → IsState automaton y all searching before hit restarts
-    → IsState (record automaton { pending = pending }) y all searching before hit restarts
-is_state_pending automaton pending all y searching before hit restarts is = record {
+    (searching : Bool) (before : LookContext) (match_flag : Option StoredStart) (restarts : Bool)
+    → IsState automaton y all searching before match_flag restarts
+    → IsState (record automaton { pending = pending }) y all searching before match_flag restarts
+is_state_pending automaton pending all y searching before match_flag restarts is = record {
   state = is.state;
   is = is.is;
   ways = is.ways;
   searching = is.searching;
   before = is.before;
-  hit = is.hit;
+  match_flag = is.match_flag;
   restarts = is.restarts;
 }

@@ -9,8 +9,8 @@ use Rattle.regex_lite_engine.proofs.Common.{ThreadsHold, IsHere, IsDeadAt, Threa
 use Rattle.regex_lite_engine.proofs.Common.{nil_from_length}
 use Rattle.regex_lite_engine.specs.Graph.Places.{Place}
 use Rattle.regex_lite_engine.specs.Search.NumberedAnswer.{NoneStartsBefore}
-use Rattle.regex_lite_engine.specs.Search.Offers.{In}
-use Rattle.regex_lite_engine.specs.Pikevm.Turns.{FromIs}
+use Rattle.regex_lite_engine.specs.Search.Pending.{In}
+use Rattle.regex_lite_engine.specs.Pikevm.Stepping.{FromIs}
 use Rattle.regex_lite_engine.specs.Pikevm.Walking.{BestHolds}
 use Rattle.regex_lite_engine.proofs.OffsetLemmas.{boundary_at}
 use Rattle.regex_lite_engine.proofs.PositionLemmas.{position_of}
@@ -18,8 +18,8 @@ use Rattle.regex_lite_engine.proofs.pikevm.WalkLemmas.{none_held}
 use Rattle.regex_lite_engine.proofs.search.OneStartLemmas.{only_entry}
 use Rattle.regex_lite_syntax.proofs.OptionLemmas.{not_there}
 use Rattle.regex_lite_meta.proofs.Common.{Here}
-use Rattle.regex_lite_meta.specs.ListPass.{IsToldFrom, StartsNoSooner, PassKnows}
-use Rattle.regex_lite_meta.proofs.list_matches.ToldLemmas.{by_least_end, from_later}
+use Rattle.regex_lite_meta.specs.ListPass.{IsReportedFrom, StartsNoSooner, PassKnows}
+use Rattle.regex_lite_meta.proofs.list_matches.ReportedLemmas.{by_least_end, from_later}
 use Rattle.regex_lite_meta.specs.declared.list_matches.status.Status.{Status}
 use Rattle.regex_lite_meta.specs.declared.list_matches.status.Status.TheVariants.{Known, Open}
 use Rattle.regex_lite_meta.specs.declared.list_matches.status.Status.TheVariants.{Left}
@@ -165,9 +165,10 @@ module _ (table : List (Place ℕ)) (bytes : List ℕ) (utf8 : IsUtf8 bytes) (en
       }
 
   -- what is known from a later position on, before which no match starts, is known from here
-  pub told_on : (s p : ℕ) (told : Bool) → NoneStartsBefore table (chars bytes) entry s p
-      → IsToldFrom table bytes entry p told → IsToldFrom table bytes entry s told
-  told_on s p told before after = from_later table (chars bytes) entry s p told before after
+  pub reported_on : (s p : ℕ) (reported : Bool) → NoneStartsBefore table (chars bytes) entry s p
+      → IsReportedFrom table bytes entry p reported → IsReportedFrom table bytes entry s reported
+  reported_on s p reported before after = from_later table (chars bytes) entry s p reported before
+      after
 
   sooner_on : (s p at : ℕ) → NoneStartsBefore table (chars bytes) entry s p
       → StartsNoSooner table bytes entry p at → StartsNoSooner table bytes entry s at
@@ -179,7 +180,7 @@ module _ (table : List (Place ℕ)) (bytes : List ℕ) (utf8 : IsUtf8 bytes) (en
   pub passed_on : (s p q : ℕ) (status : Status)
       → NoneStartsBefore table (chars bytes) entry s p
       → PassKnows table bytes entry p q status → PassKnows table bytes entry s q status
-  passed_on s p q (Known told) before after = told_on s p told before after
+  passed_on s p q (Known reported) before after = reported_on s p reported before after
   passed_on s p q (Open at) before (sooner, none) =
       (sooner_on s p at before sooner, none_on table (chars bytes) entry s p q before none)
   passed_on s p q (Left at) before after = sooner_on s p at before after
@@ -188,7 +189,7 @@ module _ (table : List (Place ℕ)) (bytes : List ℕ) (utf8 : IsUtf8 bytes) (en
   pub passed_over : (s p q : ℕ) (status : Status) → p ≤ q
       → ((i : ℕ) → p ≤ i → i < q → IsDeadAt table (chars bytes) entry i)
       → PassKnows table bytes entry s p status → PassKnows table bytes entry s q status
-  passed_over s p q (Known told) later dead passed = passed
+  passed_over s p q (Known reported) later dead passed = passed
   passed_over s p q (Open at) later dead (sooner, none) =
       (sooner, none_past table (chars bytes) entry s p q later dead none)
   passed_over s p q (Left at) later dead passed = passed
@@ -196,7 +197,7 @@ module _ (table : List (Place ℕ)) (bytes : List ℕ) (utf8 : IsUtf8 bytes) (en
   -- what is known at a later position is known here
   pub passed_so_far : (s p q : ℕ) (status : Status) → s ≤ p → p ≤ q
       → PassKnows table bytes entry s q status → PassKnows table bytes entry s p status
-  passed_so_far s p q (Known told) low later passed = passed
+  passed_so_far s p q (Known reported) low later passed = passed
   passed_so_far s p q (Open at) low later (sooner, none) =
       (sooner, none_so_far table (chars bytes) entry s p q low later none)
   passed_so_far s p q (Left at) low later passed = passed
@@ -204,7 +205,7 @@ module _ (table : List (Place ℕ)) (bytes : List ℕ) (utf8 : IsUtf8 bytes) (en
   -- where no match starts up to the end, there is none
   pub none_at_all : (s : ℕ)
       → NoneStartsBefore table (chars bytes) entry s (length (chars bytes) + 1)
-      → IsToldFrom table bytes entry s false
+      → IsReportedFrom table bytes entry s false
   none_at_all s none = by_least_end table (chars bytes) entry s None (λ i k way q j is.
       let (first, same) = only_entry entry k is.entry is.is_entry in
       let own = subst (λ e. IsNumberedMatch table (chars bytes) e s i way q j) (sym same)

@@ -27,8 +27,8 @@ use Rattle.regex_lite_meta.proofs.list_matches.PassLemmas.{passed_over, passed_s
 use Rattle.regex_lite_meta.proofs.list_matches.PassLemmas.{none_so_far}
 
 -- what is known of the pattern with this number
-abbrev pub standing_of : List Status → (number : ℕ) → Status
-standing_of statuses number = slice_index_or statuses number (Left 0)
+abbrev pub dfa_position_of : List Status → (number : ℕ) → Status
+dfa_position_of statuses number = slice_index_or statuses number (Left 0)
 
 -- at position p these starts are still to be tried
 pub record AreTried (list : StoredList) (bytes : List ℕ) (s p : ℕ) (starts : List Start)
@@ -36,7 +36,7 @@ pub record AreTried (list : StoredList) (bytes : List ℕ) (s p : ℕ) (starts :
   pub passed : PassKnowsAll list bytes s p statuses
   pub each : (number : ℕ) → number < length list.entries
       → PassKnows (table_of_list list) bytes (slice_index list.entries number) s (p + 1)
-      (standing_of statuses number)
+      (dfa_position_of statuses number)
       ⊎ (IsAmong number (slice_index list.entries number) starts
       ⊎ IsDeadAt (table_of_list list) (chars bytes) (slice_index list.entries number) p)
 
@@ -76,10 +76,10 @@ none_left (first ∷ starts) zero high = absurd (omega (arith, high))
 none_left (first ∷ starts) (suc k) high = none_left starts k (omega (arith, high))
 
 -- what is read of a status
-pub standing_read : (statuses : List Status) (number : ℕ) (read : Status)
+pub dfa_position_read : (statuses : List Status) (number : ℕ) (read : Status)
     → number < length statuses → read ≡ slice_index_or statuses number read
-    → standing_of statuses number ≡ read
-standing_read statuses number read within is =
+    → dfa_position_of statuses number ≡ read
+dfa_position_read statuses number read within is =
     get_or_from_slice_get statuses number read (Left 0)
     (slice_get_read statuses (length statuses) number read refl within is)
 
@@ -113,7 +113,7 @@ module _ (list : StoredList) (bytes : List ℕ) (utf8 : IsUtf8 bytes) (s p : ℕ
         | inr dead ↦
             passed_over (table_of_list list) bytes utf8 (slice_index list.entries number) s p
             (p + 1)
-            (standing_of statuses number) (omega arith)
+            (dfa_position_of statuses number) (omega arith)
             (λ i low high. subst (λ z. IsDeadAt (table_of_list list) (chars bytes)
             (slice_index list.entries number) z) (omega (arith, low, high)) dead)
             (tried.passed.each number within)
@@ -125,7 +125,7 @@ module _ (list : StoredList) (bytes : List ℕ) (utf8 : IsUtf8 bytes) (s p : ℕ
   pub passed_by : (start : Start) (starts : List Start) (statuses : List Status)
       → IsEntry list.entries start.number start.place
       → PassKnows (table_of_list list) bytes (slice_index list.entries start.number) s (p + 1)
-      (standing_of statuses start.number)
+      (dfa_position_of statuses start.number)
       → AreTried list bytes s p (start ∷ starts) statuses
       → AreTried list bytes s p starts statuses
   passed_by start starts statuses is known tried = record {
@@ -136,7 +136,7 @@ module _ (list : StoredList) (bytes : List ℕ) (utf8 : IsUtf8 bytes) (s p : ℕ
         | inl among ↦ elim among [
           | inl (same, place) ↦
               inl (subst (λ z. PassKnows (table_of_list list) bytes (slice_index list.entries z) s
-              (p + 1) (standing_of statuses z)) (sym same) known)
+              (p + 1) (dfa_position_of statuses z)) (sym same) known)
           | inr among ↦ inr (inl among)
         ]
         | inr dead ↦ inr (inr dead)
@@ -145,19 +145,19 @@ module _ (list : StoredList) (bytes : List ℕ) (utf8 : IsUtf8 bytes) (s p : ℕ
   }
 
   -- a pattern is tried
-  pub set_standing : (number q : ℕ) (statuses : List Status) (new : Status) → q ≤ p + 1
+  pub set_dfa_position : (number q : ℕ) (statuses : List Status) (new : Status) → q ≤ p + 1
       → number < length list.entries
       → PassKnows (table_of_list list) bytes (slice_index list.entries number) s q new
       → PassKnowsAll list bytes s q statuses
       → PassKnowsAll list bytes s q (slice_set statuses number new)
-  set_standing number q statuses new low within known passed = record {
+  set_dfa_position number q statuses new low within known passed = record {
     all = length-set statuses number new ∙ passed.all;
     each = λ other inside.
         let all = passed.all in
         elim (cases_eq other number) [
           | inl same ↦
               subst (λ z. PassKnows (table_of_list list) bytes (slice_index list.entries z) s q
-              (standing_of (slice_set statuses number new) z)) (sym same)
+              (dfa_position_of (slice_set statuses number new) z)) (sym same)
               (subst (PassKnows (table_of_list list) bytes (slice_index list.entries number) s q)
               (sym (get_or-set_same statuses number new (Left 0) (omega (arith, all, within))))
               known)
@@ -174,7 +174,7 @@ module _ (list : StoredList) (bytes : List ℕ) (utf8 : IsUtf8 bytes) (s p : ℕ
       → AreTried list bytes s p (start ∷ starts) statuses
       → AreTried list bytes s p starts (slice_set statuses start.number new)
   tried_one start starts statuses new inside low known tried = record {
-    passed = set_standing start.number p statuses new (omega arith) inside
+    passed = set_dfa_position start.number p statuses new (omega arith) inside
         (passed_so_far (table_of_list list) bytes utf8 (slice_index list.entries start.number) s p
         (p + 1) new low (omega arith) known) tried.passed;
     each = λ number within.
@@ -182,7 +182,7 @@ module _ (list : StoredList) (bytes : List ℕ) (utf8 : IsUtf8 bytes) (s p : ℕ
         elim (cases_eq number start.number) [
           | inl same ↦
               inl (subst (λ z. PassKnows (table_of_list list) bytes (slice_index list.entries z) s
-              (p + 1) (standing_of (slice_set statuses start.number new) z)) (sym same)
+              (p + 1) (dfa_position_of (slice_set statuses start.number new) z)) (sym same)
               (subst (PassKnows (table_of_list list) bytes
               (slice_index list.entries start.number) s (p + 1))
               (sym (get_or-set_same statuses start.number new (Left 0)
@@ -209,7 +209,7 @@ module _ (list : StoredList) (bytes : List ℕ) (utf8 : IsUtf8 bytes) (s p : ℕ
       → ((from : ℕ) → status ≡ Open from → here.at < from)
       → PassKnows (table_of_list list) bytes entry s p status
       → PassKnows (table_of_list list) bytes entry s (p + 1) status
-  undue entry (Known told) here is after passed = passed
+  undue entry (Known reported) here is after passed = passed
   undue entry (Left from) here is after passed = passed
   undue entry (Open from) here is after (sooner, none) = (
     sooner,
@@ -237,7 +237,7 @@ module _ (list : StoredList) (bytes : List ℕ) (utf8 : IsUtf8 bytes) (s p : ℕ
     all = passed.all;
     each = λ number within.
         passed_over (table_of_list list) bytes utf8 (slice_index list.entries number) s p w.q
-        (standing_of statuses number) w.later
+        (dfa_position_of statuses number) w.later
         (λ i low high. w.passed i low high number (slice_index list.entries number)
         (slice_get-get_or list.entries number 0 within)) (passed.each number within);
   }
@@ -253,11 +253,11 @@ ends_with_all list bytes s statuses (Some here) (q, is, ends) = ends.all
 pub rest_known : (list : StoredList) (bytes : List ℕ) → IsUtf8 bytes → (s number : ℕ)
     (statuses : List Status) (rest : Rest) (left : Option Here) → number < length list.entries
     → (left ≡ None → (table : List (Place ℕ)) (bytes : List ℕ) (entry s : ℕ)
-    → PassKnows table bytes entry s (length (chars bytes) + 1) (standing_of statuses number)
+    → PassKnows table bytes entry s (length (chars bytes) + 1) (dfa_position_of statuses number)
     → IsRest table bytes entry s rest)
     → IfSome left (λ here. (table : List (Place ℕ)) (bytes : List ℕ) (entry s q : ℕ)
     → IsUtf8 bytes → IsHere (chars bytes) q here
-    → PassKnows table bytes entry s q (standing_of statuses number)
+    → PassKnows table bytes entry s q (dfa_position_of statuses number)
     → IsRest table bytes entry s rest)
     → EndsPass list bytes s statuses left
     → IsRest (table_of_list list) bytes (slice_index list.entries number) s rest

@@ -19,7 +19,7 @@ use Rattle.regex_lite_engine.proofs.search.OneStartLemmas.{only_entry}
 use Rattle.regex_lite_syntax.specs.Prefilter.NumberedWords.{NumberedWords, TellsWhichStand}
 use Rattle.regex_lite_syntax.proofs.OptionLemmas.{same_some}
 use Rattle.regex_lite_meta.specs.AnyOfOne.{HasMatchOfAny}
-use Rattle.regex_lite_meta.specs.ListPass.{IsToldFrom, PassKnowsAll, PassKnows}
+use Rattle.regex_lite_meta.specs.ListPass.{IsReportedFrom, PassKnowsAll, PassKnows}
 use Rattle.regex_lite_meta.specs.declared.list_matches.status.Status.TheVariants.{Open, Left}
 use Rattle.regex_lite_meta.proofs.list_matches.PassLemmas.{none_yet}
 
@@ -50,9 +50,10 @@ module _ (list : StoredList) (bytes : List ℕ) (s : ℕ) (trees : List Tree)
       (i, way, q, j, m)
 
   -- what is told of the pattern that is entered there is told of its tree
-  pub told_of_tree : (told : Bool) → number < length list.entries
-      → IsToldFrom table bytes entry s told → IsTrue told ↔ HasMatchFrom tree (chars bytes) s
-  told_of_tree told within both =
+  pub reported_of_tree : (reported : Bool) → number < length list.entries
+      → IsReportedFrom table bytes entry s reported → IsTrue reported ↔ HasMatchFrom tree
+      (chars bytes) s
+  reported_of_tree reported within both =
       (λ yes. to_tree (numbered (both.0 yes)), λ match. both.1 (alone (of_tree match)))
     where
       own : slice_get list.entries number ≡ Some entry
@@ -110,22 +111,22 @@ module _ (list : StoredList) (bytes : List ℕ) (start : ℕ) where
       }
 
   -- what is told of each pattern is told of its tree
-  pub told_which : (matched : List Bool) → start ≤ length bytes
+  pub reported_which : (matched : List Bool) → start ≤ length bytes
       → length matched ≡ length list.entries
       → ((number : ℕ) → number < length list.entries
-      → IsToldFrom (table_of_list list) bytes (slice_index list.entries number)
+      → IsReportedFrom (table_of_list list) bytes (slice_index list.entries number)
       (position_at bytes start) (slice_index_or matched number false))
       → (trees : List Tree) → AreRegularPatterns trees → IsGraphOfList trees list
       → TellsWhich trees (chars bytes) (position_at bytes start) matched
-  told_which matched low all told trees regular is =
+  reported_which matched low all reported trees regular is =
       let each = is.each_entry in
       record {
         all = all ∙ is.each_entry;
         each = λ number tree there.
             let within : number < length list.entries
             = omega (arith, slice_get_within trees number tree there, each) in
-            told_of_tree list bytes (position_at bytes start) trees regular is number tree there
-            (slice_index_or matched number false) within (told number within);
+            reported_of_tree list bytes (position_at bytes start) trees regular is number tree there
+            (slice_index_or matched number false) within (reported number within);
       }
 
   -- what is told of the words is told of the trees that are nothing but these
@@ -134,12 +135,12 @@ module _ (list : StoredList) (bytes : List ℕ) (start : ℕ) where
       → length matched ≡ length list.entries → TellsWhichStand words bytes start matched
       → (trees : List Tree) → AreRegularPatterns trees → IsGraphOfList trees list
       → TellsWhich trees (chars bytes) (position_at bytes start) matched
-  words_tell utf8 edge words answers matched all told trees regular is = record {
+  words_tell utf8 edge words answers matched all reported trees regular is = record {
     all = all ∙ is.each_entry;
     each = λ number tree there. (
       λ yes. to_tree list bytes s trees regular is number tree there
-          ((answers.matches bytes start number utf8 edge).0 ((told number).0 yes)),
-      λ match. (told number).1
+          ((answers.matches bytes start number utf8 edge).0 ((reported number).0 yes)),
+      λ match. (reported number).1
           ((answers.matches bytes start number utf8 edge).1
           (of_tree list bytes s trees regular is number tree there match)),
     );

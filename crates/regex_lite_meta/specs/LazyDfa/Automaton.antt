@@ -8,25 +8,25 @@ use Rattle.regex_lite_engine.specs.Graph.Parts.{IsOwnPart, row_of}
 use Rattle.regex_lite_engine.specs.Graph.Places.{Place, reading_of}
 use Rattle.regex_lite_engine.specs.Graph.Ways.{Leads}
 use Rattle.regex_lite_meta.specs.LazyDfa.Intervals.{AreIntervalsFor, Intervals, class_of}
-use Rattle.regex_lite_meta.specs.LazyDfa.Intervals.{classes_in, side_of}
-use Rattle.regex_lite_engine.specs.Search.Beginnings.{Told}
+use Rattle.regex_lite_meta.specs.LazyDfa.Intervals.{classes_in, context_of}
+use Rattle.regex_lite_engine.specs.Search.ThreadStarts.{Reported}
 use Rattle.regex_lite_engine.specs.Search.NumberedAnswer.{numbered_step}
 use Rattle.regex_lite_engine.specs.Search.NumberedList.{IsEntry}
 use Rattle.regex_lite_engine.specs.Pikevm.Machine.{Thread}
-use Rattle.regex_lite_engine.specs.Search.Standing.{IsHere}
-use Rattle.regex_lite_engine.specs.Pikevm.Turns.{IsComing}
+use Rattle.regex_lite_engine.specs.Search.Here.{IsHere}
+use Rattle.regex_lite_engine.specs.Pikevm.Stepping.{IsComing}
 use Rattle.regex_lite_engine.specs.Search.NumberedOutcomes.{Best}
 
 -- the origin of a way as a state keeps it: whether it began at the first start, and the number of
 -- its pattern
-pub record KeptOrigin : Type 0 where
+pub record StoredStart : Type 0 where
   pub first : Bool
   pub number : Option ℕ
 
 -- a way: one NFA state (place) of a DFA state, with its origin
 pub record Way : Type 0 where
   pub place : ℕ
-  pub origin : KeptOrigin
+  pub match_start : StoredStart
 
 -- a state: all that a search depends on between two characters, in any haystack
 pub record State : Type 0 where
@@ -37,7 +37,7 @@ pub record State : Type 0 where
   -- the look context of the character before
   pub before : LookContext
   -- the origin of the match that was complete at the last position
-  pub hit : Option KeptOrigin
+  pub match_flag : Option StoredStart
   -- whether the last position is the first start from then on
   pub restarts : Bool
   -- the transitions: the number of the next state, by the class of the next character
@@ -56,15 +56,18 @@ abbrev pub unknown : ℕ
 unknown = 65535
 
 -- the start that is known of a way: i if it began at the first start, otherwise none
-abbrev pub told_if : Bool → (i : ℕ) → Option ℕ
-told_if true i = Some i
-told_if false i = None
+abbrev pub reported_if : Bool → (i : ℕ) → Option ℕ
+reported_if true i = Some i
+reported_if false i = None
 
-abbrev pub told_by : (i : ℕ) → KeptOrigin → Told
-told_by i origin = record { at = told_if origin.first i; number = origin.number }
+abbrev pub reported_by : (i : ℕ) → StoredStart → Reported
+reported_by i match_start = record {
+  at = reported_if match_start.first i;
+  number = match_start.number;
+}
 
 abbrev pub thread_of : (i : ℕ) → Way → Thread
-thread_of i way = (way.place, told_by i way.origin, [])
+thread_of i way = (way.place, reported_by i way.match_start, [])
 
 -- the threads of a state if the first start is i; the other starts aren't known
 abbrev pub threads_of : (i : ℕ) → List Way → List Thread
@@ -75,25 +78,25 @@ abbrev pub began : (first : ℕ) → Option ℕ → Bool
 began first None = false
 began first (Some start) = start == first
 
-abbrev pub origin_of : (first : ℕ) → Told → KeptOrigin
-origin_of first told = record { first = began first told.at; number = told.number }
+abbrev pub match_start_of : (first : ℕ) → Reported → StoredStart
+match_start_of first reported = record { first = began first reported.at; number = reported.number }
 
 abbrev pub way_of : (first : ℕ) → Thread → Way
-way_of first thread = record { place = thread.0; origin = origin_of first thread.1 }
+way_of first thread = record { place = thread.0; match_start = match_start_of first thread.1 }
 
 abbrev pub ways_of : (first : ℕ) → List Thread → List Way
 ways_of first threads = map (way_of first) threads
 
 -- the origin of the match that is complete, if one is
-abbrev pub hit_of : (first : ℕ) → (hit : Bool) → (found : Best) → Option KeptOrigin
-hit_of first false found = None
-hit_of first true None = None
-hit_of first true (Some found) = Some (origin_of first found.0)
+abbrev pub match_flag_of : (first : ℕ) → (match_flag : Bool) → (found : Best) → Option StoredStart
+match_flag_of first false found = None
+match_flag_of first true None = None
+match_flag_of first true (Some found) = Some (match_start_of first found.0)
 
 -- the best match after a position, if the first start is i
-abbrev pub best_left : Option KeptOrigin → (i at : ℕ) → Best → Best
+abbrev pub best_left : Option StoredStart → (i at : ℕ) → Best → Best
 best_left None i at best = best
-best_left (Some origin) i at best = Some (told_by i origin, at, [])
+best_left (Some match_start) i at best = Some (reported_by i match_start, at, [])
 
 -- the first start after a transition at the offset, if it was i before
 abbrev pub first_left : (restarts : Bool) → (i at : ℕ) → ℕ
@@ -101,9 +104,9 @@ first_left false i at = i
 first_left true i at = at
 
 -- starts are added until there is a match
-abbrev pub searching_after : Option KeptOrigin → Bool → Bool
+abbrev pub searching_after : Option StoredStart → Bool → Bool
 searching_after None searching = searching
-searching_after (Some origin) searching = false
+searching_after (Some match_start) searching = false
 
 -- there is no match yet while starts are added
 abbrev pub Suits : (searching : Bool) → Best → Type 0
@@ -114,7 +117,7 @@ Suits false best = best ≡ None → ⊥
 pub record Sees (intervals : Intervals) (before : LookContext) (class : ℕ) (there : Here)
     : Type 0 where
   pub ahead : class_of intervals.boundaries there.after ≡ class
-  pub behind : intervals.looks ≡ true → side_of there.before ≡ before
+  pub behind : intervals.looks ≡ true → context_of there.before ≡ before
 
 -- Wherever a search in state x is before a character of the class, its transition leads to state y.
 -- If there are no ways, the position itself is the first start
@@ -125,10 +128,11 @@ pub record LeadsOn (table : List (Place ℕ)) (entries : List ℕ) (intervals : 
       → (haystack : Text) (p first last : ℕ) → IsHere haystack p there → first ≤ p → p ≤ last
       → IsComing table haystack entries first last p (threads_of i x.ways) best
       → IsComing table haystack entries first last (p + 1)
-      (threads_of (first_left y.restarts i there.at) y.ways) (best_left y.hit i there.at best)
-  pub searching : y.searching ≡ searching_after y.hit x.searching
+      (threads_of (first_left y.restarts i there.at) y.ways)
+      (best_left y.match_flag i there.at best)
+  pub searching : y.searching ≡ searching_after y.match_flag x.searching
   pub before : intervals.looks ≡ true → (there : Here)
-      → class_of intervals.boundaries there.after ≡ class → side_of there.after ≡ y.before
+      → class_of intervals.boundaries there.after ≡ class → context_of there.after ≡ y.before
 
 -- the start state after this character: it has no ways, and there is no match yet
 pub record IsEmptyState (automaton : Automaton) (x : ℕ) (last : Option ℕ) : Type 0 where
@@ -136,7 +140,7 @@ pub record IsEmptyState (automaton : Automaton) (x : ℕ) (last : Option ℕ) : 
   pub is_state : slice_get automaton.states x ≡ Some state
   pub none : state.ways ≡ []
   pub searching : state.searching ≡ true
-  pub sees : automaton.intervals.looks ≡ true → state.before ≡ side_of last
+  pub sees : automaton.intervals.looks ≡ true → state.before ≡ context_of last
 
 -- this number is at most the number of places that read a character, in any part that has the
 -- patterns
@@ -159,7 +163,7 @@ ReadsAtMost table entries most =
     → Leads (ℕ × ℕ) (numbered_step table haystack) (entry, i) way (r, j) → j ≤ i + most
 
 -- all cached transitions are those of searches in this table
-pub record Remembers (table : List (Place ℕ)) (entries : List ℕ) (automaton : Automaton)
+pub record IsDfaOf (table : List (Place ℕ)) (entries : List ℕ) (automaton : Automaton)
     : Type 0 where
   pub intervals : AreIntervalsFor table entries automaton.intervals
   pub reach : IfSome automaton.reach (ReadsAtMost table entries)

@@ -89,11 +89,11 @@ pub record AreIntervalsOf (places : List code.Place) (intervals : Intervals) : T
   pub each : (q : ℕ) (place : code.Place) → slice_get places q ≡ Some place
       → IsBoundedPlace intervals place
   pub characters : All (IsBoundary intervals.boundaries) character_bounds
-  pub sides : intervals.looks ≡ true → All (IsBoundary intervals.boundaries) look_bounds
+  pub contexts : intervals.looks ≡ true → All (IsBoundary intervals.boundaries) look_bounds
 
 -- the look context of a neighbour
-abbrev pub side_of : Option ℕ → LookContext
-side_of c = record {
+abbrev pub context_of : Option ℕ → LookContext
+context_of c = record {
   is_none = is_none c;
   is_line_feed = is c (the "\n");
   is_carriage_return = is c (the "\r");
@@ -104,11 +104,11 @@ side_of c = record {
 -- look context
 pub record LooksAlike (intervals : Intervals) (here there : Here) : Type 0 where
   pub ahead : class_of intervals.boundaries here.after ≡ class_of intervals.boundaries there.after
-  pub behind : intervals.looks ≡ true → side_of here.before ≡ side_of there.before
+  pub behind : intervals.looks ≡ true → context_of here.before ≡ context_of there.before
 
 -- searches for these patterns don't distinguish characters between the same boundaries
 pub record AreIntervalsFor (table : List (Place ℕ)) (entries : List ℕ) (intervals : Intervals)
     : Type 0 where
   pub alike : (here there : Here) → LooksAlike intervals here there
       → AreAlike table entries here there
-  pub sides : intervals.looks ≡ true → All (IsBoundary intervals.boundaries) look_bounds
+  pub contexts : intervals.looks ≡ true → All (IsBoundary intervals.boundaries) look_bounds

@@ -2,21 +2,21 @@
 use Rattle.std.specs.Prelude.{◌≡◌, ◌+◌, ◌-◌, ◌*◌, ◌≤◌, ℕ, List, []}
 use Rattle.std.specs.Prelude.{MatchOption, Some, false, length}
 use Rattle.regex_lite_syntax.specs.Text.{Text}
-use Rattle.regex_lite_meta.specs.declared.lazy_dfa.run.Progress.{Progress}
+use Rattle.regex_lite_meta.specs.declared.lazy_dfa.run.Position.{Position}
 use Rattle.regex_lite_meta.specs.declared.lazy_dfa.state.StoredWay.{StoredWay}
 use Rattle.regex_lite_engine.specs.declared.pikevm.cache.Cache.{Cache}
 use Rattle.regex_lite_engine.specs.Graph.Parts.{IsOwnPart}
 use Rattle.regex_lite_engine.specs.Graph.Places.{Place}
 use Rattle.regex_lite_engine.specs.Graph.Renumbered.{arrows_of}
 use Rattle.regex_lite_meta.specs.LazyDfa.Automaton.{Automaton, IsEmptyState}
-use Rattle.regex_lite_meta.specs.LazyDfa.Learning.{IsFirstStart, IsIn}
-use Rattle.regex_lite_engine.specs.Search.Beginnings.{Told}
+use Rattle.regex_lite_meta.specs.LazyDfa.Determinizing.{IsFirstStart, IsIn}
+use Rattle.regex_lite_engine.specs.Search.ThreadStarts.{Reported}
 use Rattle.regex_lite_engine.specs.Search.NumberedList.{IsMatchOfAny}
 use Rattle.regex_lite_engine.specs.Pikevm.Machine.{Thread}
 use Rattle.regex_lite_engine.specs.Pikevm.Passing.{HasSpentWithin}
 use Rattle.regex_lite_engine.specs.Pikevm.Searching.{IsBetween}
-use Rattle.regex_lite_engine.specs.Search.Standing.{IsHere}
-use Rattle.regex_lite_engine.specs.Pikevm.Turns.{best_of, IsComing}
+use Rattle.regex_lite_engine.specs.Search.Here.{IsHere}
+use Rattle.regex_lite_engine.specs.Pikevm.Stepping.{best_of, IsComing}
 
 module _ (table : List (Place ℕ)) (haystack : Text) (entries : List ℕ) (s : ℕ) where
   -- position m is s or later, and no match of any pattern from s on starts before it
@@ -42,7 +42,7 @@ module _ (table : List (Place ℕ)) (haystack : Text) (entries : List ℕ) (s : 
         → HasSpentWithin table haystack entries s low len p cache
 
   -- this is the search's position, and its state, if that is known
-  pub record Stands {S : Type 0} (automaton : Automaton) (at : Progress) (cache : Cache S)
+  pub record Stands {S : Type 0} (automaton : Automaton) (at : Position) (cache : Cache S)
       : Type 0 where
     pub p : ℕ
     pub is : IsHere haystack p at.here
@@ -56,7 +56,7 @@ module _ (table : List (Place ℕ)) (haystack : Text) (entries : List ℕ) (s : 
         (λ x. IsIn automaton x at.first at.here.before cache)
 
 -- what a search keeps of a path of this pattern that began at the offset
-abbrev pub started_at : (at number : ℕ) → Told
+abbrev pub started_at : (at number : ℕ) → Reported
 started_at at number = record { at = Some at; number = Some number }
 
 -- the thread of a way that began at the first start
@@ -74,7 +74,7 @@ pub record GoesOnWith {S : Type 0} (old new : Cache S) : Type 0 where
   pub best_row : length new.best.row ≡ length old.best.row
 
 -- this is the search's position, in the start state, if that is cached
-pub record StandsIdle (automaton : Automaton) (before at : Progress) : Type 0 where
+pub record StandsAtStartState (automaton : Automaton) (before at : Position) : Type 0 where
   pub here_is : at.here ≡ before.here
   pub same : at.anew ≡ before.anew
   pub first : at.first ≡ at.here.at

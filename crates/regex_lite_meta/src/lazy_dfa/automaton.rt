@@ -5,15 +5,17 @@ ghost use Rattle.std.specs.Prelude.{ℕ, false, true};
 ghost use Rattle.regex_lite_meta.specs.LazyDfa.Automaton.{State, unknown};
 ghost use Rattle.regex_lite_meta.specs.LazyDfa.Extending.{Extends, IsState};
 ghost use Rattle.regex_lite_meta.specs.LazyDfa.Intervals.{classes_in};
-ghost use Rattle.regex_lite_meta.specs.LazyDfa.Stored.{hit_in, way_in};
-ghost use Rattle.regex_lite_meta.specs.LazyDfa.Targets.{AreTargets, IsRowOf, IsTargetOf};
+ghost use Rattle.regex_lite_meta.specs.LazyDfa.Stored.{match_flag_in, way_in};
+ghost use Rattle.regex_lite_meta.specs.LazyDfa.NextStates.{AreNextStates, IsNextStateOf, IsRowOf};
 
+use crate::lazy_dfa::capacity::{Capacity, MOST_STATES};
 use crate::lazy_dfa::classes::Classes;
 use crate::lazy_dfa::lookup::Lookup;
-use crate::lazy_dfa::room::{MOST_STATES, Room};
-use crate::lazy_dfa::run::Progress;
+use crate::lazy_dfa::run::Position;
 use crate::lazy_dfa::start_states::StartStates;
-use crate::lazy_dfa::state::{Effect, Hit, LookContext, StoredState, StoredWay, Target};
+use crate::lazy_dfa::state::{
+    LookContext, MatchFlag, NextState, StoredState, StoredWay, TransitionKind,
+};
 use crate::strategy::BYTES_FOR_ONE;
 use std::alloc::{AllocError, Global};
 use std::marker::Model;
@@ -26,7 +28,7 @@ pub(crate) struct LazyDfa {
     pub(super) states: Vec<StoredState>,
     /// The transition table: a row for each state, with a target for each class of the next
     /// character.
-    targets: Vec<Target>,
+    next_states: Vec<NextState>,
     /// The number of targets in a row.
     width: usize,
     /// The ways (NFA states with their origins) of all states, followed by the pending ways: those
@@ -58,14 +60,15 @@ impl Model for LazyDfa {
     ghost view = { λ dfa. record {
       intervals = dfa.classes;
       reach = dfa.reach;
-      states = states_in dfa.ways.items (classes_in dfa.classes) dfa.targets.items dfa.states.items;
+      states = states_in dfa.ways.items (classes_in dfa.classes) dfa.next_states.items
+          dfa.states.items;
       pending = map way_in (drop dfa.used dfa.ways.items);
     } };
 
     ghost invariant = { λ dfa. LieWithin dfa.used dfa.states.items
         × (dfa.used ≤ length dfa.ways.items) × (length dfa.states.items ≤ 256)
-        × AllAgree dfa.states.items (classes_in dfa.classes) dfa.targets.items
-        × (length dfa.targets.items ≡ length dfa.states.items * classes_in dfa.classes)
+        × AllAgree dfa.states.items (classes_in dfa.classes) dfa.next_states.items
+        × (length dfa.next_states.items ≡ length dfa.states.items * classes_in dfa.classes)
         × (dfa.width ≡ classes_in dfa.classes) × (dfa.width < 128) };
 }
 
@@ -74,7 +77,7 @@ impl LazyDfa {
     pub(crate) fn new(
         alloc: Global,
         classes: Classes,
-        room: Room,
+        room: Capacity,
         spare: usize,
         reach: Option<usize>,
     ) -> Result<LazyDfa, AllocError>
@@ -84,14 +87,14 @@ impl LazyDfa {
         ensures pending { IfOk result (λ dfa. dfa.pending ≡ []) }
     {
         let states = Vec::with_capacity(alloc, room.states)?;
-        let targets = Vec::with_capacity(alloc, room.targets)?;
+        let next_states = Vec::with_capacity(alloc, room.next_states)?;
         let ways = Vec::with_capacity(alloc, room.ways)?;
         let lookup = Lookup::new(alloc, room.states)?;
         let width = classes.len();
         Ok(LazyDfa {
             classes,
             states,
-            targets,
+            next_states,
             width,
             ways,
             used: 0,
@@ -106,7 +109,7 @@ impl LazyDfa {
     /// Whether a search at this position that began at `from` gives the lazy DFA up: if more than
     /// one transition in `BYTES_FOR_ONE` bytes did not fit the cache. A search that began anew
     /// doesn't give up; its lazy DFA is that of one pattern.
-    pub(super) fn is_given_up(&self, at: Progress, from: usize) -> bool
+    pub(super) fn is_given_up(&self, at: Position, from: usize) -> bool
         ensures { result ≡ true → at.anew ≡ false }
     {
         let went = at.here.at.saturating_sub(from);
@@ -159,11 +162,11 @@ impl LazyDfa {
 
     /// Whether another state fits.
     #[tactic(auto, using(crate::proofs::lazy_dfa::StoredStateLemmas::length_states))]
-    pub(super) fn has_room(&self) -> bool
+    pub(super) fn has_capacity(&self) -> bool
         ensures { result ≡ true → length self.now.states < 256 }
     {
         self.states.len() < self.states.capacity().min(MOST_STATES)
-            && self.targets.len() + self.classes.len() <= self.targets.capacity()
+            && self.next_states.len() + self.classes.len() <= self.next_states.capacity()
     }
 
     /// Adds a state with the pending ways and these properties. Returns whether it fitted.
@@ -171,12 +174,12 @@ impl LazyDfa {
         &mut self,
         searching: bool,
         before: LookContext,
-        hit: Hit,
+        match_flag: MatchFlag,
         restarts: bool,
     ) -> bool
         requires { length self.old.states < 256 }
         ensures state { result ≡ true → IsState self.new (length self.old.states)
-            self.old.pending searching before (hit_in hit) restarts }
+            self.old.pending searching before (match_flag_in match_flag) restarts }
         ensures extends { Extends self.old self.new }
         ensures none_pending { result ≡ true → self.new.pending ≡ [] }
     {
@@ -186,16 +189,16 @@ impl LazyDfa {
             searching,
             restarts,
             before,
-            hit,
+            match_flag,
         };
-        let rows = self.targets.len();
+        let rows = self.next_states.len();
         let longer = rows + self.classes.len();
-        let unknown = Target {
-            effect: Effect::Unknown,
+        let unknown = NextState {
+            kind: TransitionKind::Unknown,
             state: 0,
             row: 0,
         };
-        let Ok(()) = self.targets.resize(longer, unknown) else {
+        let Ok(()) = self.next_states.resize(longer, unknown) else {
             return false;
         };
         match self.states.push(state) {
@@ -204,7 +207,7 @@ impl LazyDfa {
                 true
             }
             Err(_) => {
-                self.targets.truncate(rows);
+                self.next_states.truncate(rows);
                 false
             }
         }
@@ -212,57 +215,57 @@ impl LazyDfa {
 
     /// Caches a transition.
     #[tactic(auto, using(crate::proofs::lazy_dfa::StoredStateLemmas::length_states))]
-    pub(crate) fn remember(&mut self, x: u16, class: usize, y: u16)
+    pub(crate) fn set_transition(&mut self, x: u16, class: usize, y: u16)
         requires state { x < length self.old.states }
         requires class { class < classes_in self.old.intervals }
-        requires target { y < length self.old.states }
+        requires next_state { y < length self.old.states }
         ensures { (state : State) → slice_get self.old.states x ≡ Some state
             → self.new ≡ record self.old {
               states = slice_set self.old.states x
                   (record state { next = slice_set state.next class y });
             } }
     {
-        let target = Target {
-            effect: self.states[y as usize].effect(),
+        let next_state = NextState {
+            kind: self.states[y as usize].kind(),
             state: y as u8,
             row: self.row(y) as u16,
         };
         let cell = self.row(x) + class;
-        self.targets[cell] = target;
+        self.next_states[cell] = next_state;
     }
 
     /// The target of the transition from this state, if it is cached.
     #[inline(always)]
-    pub(super) fn known_target(&self, x: u16, class: usize) -> Option<Target>
+    pub(super) fn cached_state(&self, x: u16, class: usize) -> Option<NextState>
         requires state { x < length self.now.states }
         requires class { class < classes_in self.now.intervals }
-        ensures known { IfSome result (λ target. ¬ (target.state ≡ unknown)
+        ensures known { IfSome result (λ next_state. ¬ (next_state.state ≡ unknown)
             × ((state : State) → slice_get self.now.states x ≡ Some state
-            → slice_index state.next class ≡ target.state)) }
+            → slice_index state.next class ≡ next_state.state)) }
     {
-        let target = self.target(self.row(x), class);
-        if let Effect::Unknown = target.effect {
+        let next_state = self.next_state(self.row(x), class);
+        if let TransitionKind::Unknown = next_state.kind {
             return None;
         }
-        Some(target)
+        Some(next_state)
     }
 
     /// The target in this row for this class.
     #[inline(always)]
-    pub(super) fn target(&self, row: usize, class: usize) -> Target
+    pub(super) fn next_state(&self, row: usize, class: usize) -> NextState
         requires row { (x : ℕ) × IsRowOf self.now row x }
         requires class { class < classes_in self.now.intervals }
-        ensures { (x : ℕ) → IsRowOf self.now row x → IsTargetOf self.now x class result }
+        ensures { (x : ℕ) → IsRowOf self.now row x → IsNextStateOf self.now x class result }
     {
-        self.targets()[row + class]
+        self.next_states()[row + class]
     }
 
     /// The targets of all rows.
     #[inline(always)]
-    pub(super) fn targets(&self) -> &[Target]
-        ensures { AreTargets self.now result.now }
+    pub(super) fn next_states(&self) -> &[NextState]
+        ensures { AreNextStates self.now result.now }
     {
-        &self.targets
+        &self.next_states
     }
 
     /// The start of this state's row.

@@ -6,10 +6,10 @@ ghost use Rattle.regex_lite_engine.specs.Search.Offsets.{position_at};
 ghost use Rattle.regex_lite_engine.specs.Search.Starts.{AreAllStarts};
 
 use crate::lazy_dfa::automaton::LazyDfa;
-use crate::lazy_dfa::run::Progress;
-use crate::lazy_dfa::scan::Standing;
-use regex_lite_engine::pikevm::beginning::Origin;
+use crate::lazy_dfa::run::Position;
+use crate::lazy_dfa::scan::DfaPosition;
 use regex_lite_engine::pikevm::cache::{Cache, restart};
+use regex_lite_engine::pikevm::thread_start::MatchStart;
 use regex_lite_engine::search::here::Here;
 use regex_lite_engine::search::patterns::Patterns;
 
@@ -25,10 +25,10 @@ impl LazyDfa {
     pub(super) fn search<P: Patterns, const EARLIEST: bool>(
         &mut self,
         patterns: &P,
-        cache: &mut Cache<Origin>,
+        cache: &mut Cache<MatchStart>,
         haystack: &str,
         from: usize,
-    ) -> Result<Option<(Origin, usize)>, Progress>
+    ) -> Result<Option<(MatchStart, usize)>, Position>
         requires all { AreAllStarts (P.table patterns.now) (P.entries patterns.now)
             (P.starts patterns.now) }
         requires on { CanGoOn (P.table patterns.now) (P.entries patterns.now) haystack.now from
@@ -39,11 +39,11 @@ impl LazyDfa {
         let Some(state) = self.start_state(haystack, from) else {
             return self.search_anew::<_, EARLIEST>(patterns, cache, haystack, from);
         };
-        let mut at = Standing {
+        let mut at = DfaPosition {
             at: from,
             state,
             first: from,
-            idle_at: from,
+            start_state_at: from,
             best: None,
         };
         if self.run::<P, EARLIEST>(patterns, haystack, &mut at) {
@@ -57,11 +57,11 @@ impl LazyDfa {
     fn search_on<P: Patterns, const EARLIEST: bool>(
         &mut self,
         patterns: &P,
-        cache: &mut Cache<Origin>,
+        cache: &mut Cache<MatchStart>,
         haystack: &str,
         from: usize,
-        stopped: Standing,
-    ) -> Result<Option<(Origin, usize)>, Progress>
+        stopped: DfaPosition,
+    ) -> Result<Option<(MatchStart, usize)>, Position>
         requires all { AreAllStarts (P.table patterns.now) (P.entries patterns.now)
             (P.starts patterns.now) }
         requires on { CanGoOn (P.table patterns.now) (P.entries patterns.now) haystack.now from
@@ -79,7 +79,7 @@ impl LazyDfa {
             return Ok(to.best);
         }
         restart(cache);
-        let mut at = Progress::begun(Here::at(haystack, from));
+        let mut at = Position::begun(Here::at(haystack, from));
         self.resume(patterns, cache, haystack, &mut at, to);
         self.begin_anew(patterns, cache, haystack, &mut at, to);
         self.search_while_it_pays::<_, EARLIEST>(patterns, cache, haystack, at, 0)
@@ -90,10 +90,10 @@ impl LazyDfa {
     fn search_anew<P: Patterns, const EARLIEST: bool>(
         &mut self,
         patterns: &P,
-        cache: &mut Cache<Origin>,
+        cache: &mut Cache<MatchStart>,
         haystack: &str,
         from: usize,
-    ) -> Result<Option<(Origin, usize)>, Progress>
+    ) -> Result<Option<(MatchStart, usize)>, Position>
         requires all { AreAllStarts (P.table patterns.now) (P.entries patterns.now)
             (P.starts patterns.now) }
         requires on { CanGoOn (P.table patterns.now) (P.entries patterns.now) haystack.now from
@@ -102,7 +102,7 @@ impl LazyDfa {
             EARLIEST result self.new cache.new }
     {
         restart(cache);
-        let begun = Progress::begun(Here::at(haystack, from));
+        let begun = Position::begun(Here::at(haystack, from));
         self.search_while_it_pays::<_, EARLIEST>(patterns, cache, haystack, begun, 0)
     }
 }

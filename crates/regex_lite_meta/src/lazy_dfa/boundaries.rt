@@ -67,7 +67,7 @@ impl Boundaries {
     pub(crate) fn all(&self) -> &[u32]
         ensures same { result.now ≡ self.now.boundaries }
         ensures few { length result.now ≤ 125 }
-        ensures sides { self.now.looks ≡ true → All (IsBoundary result.now) look_bounds }
+        ensures contexts { self.now.looks ≡ true → All (IsBoundary result.now) look_bounds }
     {
         &self.cells[..self.len]
     }

@@ -2,9 +2,9 @@
 //! others.
 ghost use Rattle.std.specs.Prelude.{◌≡◌, ◌+◌, ◌≤◌, [], ℕ, IfErr, IfOk, IfSome, MatchOption, None};
 ghost use Rattle.std.specs.Prelude.{chars, false, length, true, ◌<◌, ◌⊎◌, All, IsCharBoundary};
-ghost use Rattle.regex_lite_meta.specs.LazyDfa.Automaton.{Remembers};
+ghost use Rattle.regex_lite_meta.specs.LazyDfa.Automaton.{IsDfaOf};
 ghost use Rattle.regex_lite_meta.specs.LazyDfa.Running.{Stands, NoneStartsBeforeOf};
-ghost use Rattle.regex_lite_meta.specs.LazyDfa.Scanning.{best_told, ComesTo, IsScanning};
+ghost use Rattle.regex_lite_meta.specs.LazyDfa.Scanning.{best_reported, ComesTo, IsScanning};
 ghost use Rattle.regex_lite_engine.specs.Graph.Parts.{IsOwnPart, row_of};
 ghost use Rattle.regex_lite_engine.specs.Graph.Renumbered.{arrows_of};
 ghost use Rattle.regex_lite_engine.specs.Search.Starts.{AreAllStarts};
@@ -13,18 +13,18 @@ ghost use Rattle.regex_lite_engine.specs.Search.Offsets.{position_at};
 ghost use Rattle.regex_lite_engine.specs.Search.Counting.{CanCount};
 ghost use Rattle.regex_lite_engine.specs.Search.NumberedOutcomes.{IsFoundOf};
 ghost use Rattle.regex_lite_engine.specs.Pikevm.Searching.{IsBetween};
-ghost use Rattle.regex_lite_engine.specs.Pikevm.Turns.{best_of};
+ghost use Rattle.regex_lite_engine.specs.Pikevm.Stepping.{best_of};
 
 use crate::lazy_dfa::automaton::LazyDfa;
 use crate::lazy_dfa::reach::back;
 use crate::lazy_dfa::run::{
-    Progress, first_after, go_over, let_go, may_have, next_position, take_up_ways,
+    Position, first_after, go_over, load_ways, may_have, next_position, reset,
 };
-use crate::lazy_dfa::scan::Standing;
+use crate::lazy_dfa::scan::DfaPosition;
 use crate::lazy_dfa::state::StoredWay;
-use regex_lite_engine::pikevm::beginning::Origin;
 use regex_lite_engine::pikevm::cache::Cache;
 use regex_lite_engine::pikevm::run::{advance, is_done};
+use regex_lite_engine::pikevm::thread_start::MatchStart;
 use regex_lite_engine::search::here::Here;
 use regex_lite_engine::search::patterns::Patterns;
 
@@ -39,13 +39,13 @@ impl LazyDfa {
     pub(crate) fn find<P: Patterns + Copy, const EARLIEST: bool>(
         &mut self,
         patterns: &P,
-        cache: &mut Cache<Origin>,
+        cache: &mut Cache<MatchStart>,
         haystack: &str,
         from: usize,
-    ) -> Option<(Origin, usize)>
+    ) -> Option<(MatchStart, usize)>
         requires all { AreAllStarts (P.table patterns.now) (P.entries patterns.now)
             (P.starts patterns.now) }
-        requires remembers { Remembers (P.table patterns.now) (P.entries patterns.now) self.old }
+        requires is_dfa { IsDfaOf (P.table patterns.now) (P.entries patterns.now) self.old }
         requires none_pending { self.old.pending ≡ [] }
         requires between { IsBetween (P.table patterns.now) cache.old }
         requires boundary { IsCharBoundary haystack.now from }
@@ -53,8 +53,8 @@ impl LazyDfa {
             (characters_left (chars haystack.now) (position_at haystack.now from)) }
         requires width { length cache.old.walk.memory.row ≡ 0 }
         ensures found { IsFoundOf EARLIEST (P.table patterns.now) (chars haystack.now)
-            (P.entries patterns.now) (position_at haystack.now from) (best_told result) }
-        ensures remembers { Remembers (P.table patterns.now) (P.entries patterns.now) self.new }
+            (P.entries patterns.now) (position_at haystack.now from) (best_reported result) }
+        ensures is_dfa { IsDfaOf (P.table patterns.now) (P.entries patterns.now) self.new }
         ensures none_pending { self.new.pending ≡ [] }
         ensures between { IsBetween (P.table patterns.now) cache.new }
         ensures width { length cache.new.walk.memory.row ≡ 0 }
@@ -76,14 +76,14 @@ impl LazyDfa {
     pub(crate) fn search_while_it_pays<P: Patterns, const EARLIEST: bool>(
         &mut self,
         patterns: &P,
-        cache: &mut Cache<Origin>,
+        cache: &mut Cache<MatchStart>,
         haystack: &str,
-        from: Progress,
+        from: Position,
         least: u128,
-    ) -> Result<Option<(Origin, usize)>, Progress>
+    ) -> Result<Option<(MatchStart, usize)>, Position>
         requires all { AreAllStarts (P.table patterns.now) (P.entries patterns.now)
             (P.starts patterns.now) }
-        requires remembers { Remembers (P.table patterns.now) (P.entries patterns.now) self.old }
+        requires is_dfa { IsDfaOf (P.table patterns.now) (P.entries patterns.now) self.old }
         requires none_pending { self.old.pending ≡ [] }
         requires stands { (s : ℕ)
             × CanCount (P.table patterns.now) (length (P.entries patterns.now))
@@ -95,7 +95,7 @@ impl LazyDfa {
         ensures found { (s : ℕ) → Stands (P.table patterns.now) (chars haystack.now)
             (P.entries patterns.now) s self.old from cache.old
             → IfOk result (λ found. IsFoundOf EARLIEST (P.table patterns.now) (chars haystack.now)
-            (P.entries patterns.now) s (best_told found)) }
+            (P.entries patterns.now) s (best_reported found)) }
         ensures bounded { (s : ℕ) → Stands (P.table patterns.now) (chars haystack.now)
             (P.entries patterns.now) s self.old from cache.old
             → IfOk result (λ _. IsBoundedBy (length (P.table patterns.now))
@@ -118,14 +118,14 @@ impl LazyDfa {
             (P.entries patterns.now) s self.new at cache.new) }
         ensures none { IfErr result (λ _. EARLIEST ≡ true → best_of cache.new.best ≡ None) }
         ensures not_anew { IfErr result (λ at. at.anew ≡ false) }
-        ensures remembers { Remembers (P.table patterns.now) (P.entries patterns.now) self.new }
+        ensures is_dfa { IsDfaOf (P.table patterns.now) (P.entries patterns.now) self.new }
         ensures none_pending { self.new.pending ≡ [] }
         ensures between { IsBetween (P.table patterns.now) cache.new }
         ensures width { length cache.new.walk.memory.row ≡ 0 }
     {
         let mut at = from;
         'positions: loop {
-            at = self.at_idle(patterns, cache, haystack, at);
+            at = self.at_start_state(patterns, cache, haystack, at);
             let ahead = self.look_ahead::<_, EARLIEST>(patterns, cache, haystack, &mut at, least);
             if let Some(found) = ahead {
                 return Ok(found);
@@ -133,9 +133,9 @@ impl LazyDfa {
             if self.is_given_up(at, from.here.at) {
                 return Err(at);
             }
-            let hit = go_over(cache, patterns, haystack, at.here);
+            let match_flag = go_over(cache, patterns, haystack, at.here);
             let first = first_after(cache, at);
-            at.state = self.learn(patterns, cache, at, hit, first);
+            at.state = self.determinize(patterns, cache, at, match_flag, first);
             at.first = first;
             if is_done::<_, EARLIEST>(at.here, cache) {
                 return Ok(cache.best.found());
@@ -151,12 +151,12 @@ impl LazyDfa {
     fn look_ahead<P: Patterns, const EARLIEST: bool>(
         &self,
         patterns: &P,
-        cache: &mut Cache<Origin>,
+        cache: &mut Cache<MatchStart>,
         haystack: &str,
-        at: &mut Progress,
+        at: &mut Position,
         least: u128,
-    ) -> Option<Option<(Origin, usize)>>
-        requires remembers { Remembers (P.table patterns.now) (P.entries patterns.now) self.now }
+    ) -> Option<Option<(MatchStart, usize)>>
+        requires is_dfa { IsDfaOf (P.table patterns.now) (P.entries patterns.now) self.now }
         requires stands { (s : ℕ) × Stands (P.table patterns.now) (chars haystack.now)
             (P.entries patterns.now) s self.now at.old cache.old }
         requires none { EARLIEST ≡ true → best_of cache.old.best ≡ None }
@@ -165,7 +165,7 @@ impl LazyDfa {
             → MatchOption result (Stands (P.table patterns.now) (chars haystack.now)
             (P.entries patterns.now) s self.now at.new cache.new)
             (λ best. IsFoundOf EARLIEST (P.table patterns.now) (chars haystack.now)
-            (P.entries patterns.now) s (best_told best)) }
+            (P.entries patterns.now) s (best_reported best)) }
         ensures none { EARLIEST ≡ true → best_of cache.new.best ≡ None }
         ensures between { IsBetween (P.table patterns.now) cache.new }
         ensures width { length cache.new.walk.memory.row ≡ 0 }
@@ -179,11 +179,11 @@ impl LazyDfa {
         if at.here.at < at.until || cache.walk.steps.entered() < least {
             return None;
         }
-        let mut to = Standing {
+        let mut to = DfaPosition {
             at: at.here.at,
             state,
             first: at.first,
-            idle_at: at.first,
+            start_state_at: at.first,
             best: cache.best.found(),
         };
         if self.scan::<P, EARLIEST>(patterns, haystack, &mut to) {
@@ -201,12 +201,12 @@ impl LazyDfa {
     pub(super) fn resume<P: Patterns>(
         &self,
         patterns: &P,
-        cache: &mut Cache<Origin>,
+        cache: &mut Cache<MatchStart>,
         haystack: &str,
-        at: &mut Progress,
-        stuck: Standing,
+        at: &mut Position,
+        stuck: DfaPosition,
     )
-        requires remembers { Remembers (P.table patterns.now) (P.entries patterns.now) self.now }
+        requires is_dfa { IsDfaOf (P.table patterns.now) (P.entries patterns.now) self.now }
         requires state { stuck.state < length self.now.states }
         requires stands { (s : ℕ) × (stands : Stands (P.table patterns.now) (chars haystack.now)
             (P.entries patterns.now) s self.now at.old cache.old)
@@ -226,8 +226,8 @@ impl LazyDfa {
             return;
         }
         let ways = self.ways(stuck.state as usize);
-        if may_take_up(ways, stuck) && may_have(cache, stuck.best) {
-            take_up_ways(cache, ways, stuck.first, stuck.best);
+        if may_load(ways, stuck) && may_have(cache, stuck.best) {
+            load_ways(cache, ways, stuck.first, stuck.best);
             at.state = Some(stuck.state);
             at.first = stuck.first;
             at.here = Here::at(haystack, stuck.at);
@@ -235,9 +235,9 @@ impl LazyDfa {
         }
         // This doesn't overflow: no haystack is that long.
         at.until = stuck.at + 1;
-        if stuck.idle_at > at.here.at {
-            let here = Here::at(haystack, stuck.idle_at);
-            let_go(cache);
+        if stuck.start_state_at > at.here.at {
+            let here = Here::at(haystack, stuck.start_state_at);
+            reset(cache);
             at.state = self.empty_state(here.before);
             at.first = here.at;
             at.here = here;
@@ -250,12 +250,12 @@ impl LazyDfa {
     pub(super) fn begin_anew<P: Patterns>(
         &self,
         patterns: &P,
-        cache: &mut Cache<Origin>,
+        cache: &mut Cache<MatchStart>,
         haystack: &str,
-        at: &mut Progress,
-        stuck: Standing,
+        at: &mut Position,
+        stuck: DfaPosition,
     )
-        requires remembers { Remembers (P.table patterns.now) (P.entries patterns.now) self.now }
+        requires is_dfa { IsDfaOf (P.table patterns.now) (P.entries patterns.now) self.now }
         requires stands { (s low q : ℕ) × Stands (P.table patterns.now) (chars haystack.now)
             (P.entries patterns.now) s self.now at.old cache.old
             × NoneStartsBeforeOf (P.table patterns.now) (chars haystack.now)
@@ -283,7 +283,7 @@ impl LazyDfa {
         let Some(here) = back(haystack, stuck_here, reach, at.here.at) else {
             return;
         };
-        let_go(cache);
+        reset(cache);
         at.state = None;
         at.first = here.at;
         at.here = here;
@@ -293,7 +293,7 @@ impl LazyDfa {
 
 /// Whether all threads of this state began at the first start, and that is before this position if
 /// there are any.
-fn may_take_up(ways: &[StoredWay], stuck: Standing) -> bool
+fn may_load(ways: &[StoredWay], stuck: DfaPosition) -> bool
     ensures all { result ≡ true → All (λ way. way.is_first ≡ true) ways.now }
     ensures before { result ≡ true → (ways.now ≡ []) ⊎ (stuck.first < stuck.at) }
 {

@@ -2,9 +2,8 @@
 //! it pays they use a lazy DFA, and keep no slots.
 ghost use Rattle.std.specs.Prelude.{◌≡◌, ◌<◌, IfOk, IfSome, IsCharBoundary, None, chars, length};
 ghost use Rattle.std.specs.Prelude.{false, option_map};
-ghost use Rattle.regex_lite_meta.specs.LazyDfa.Remembering.{FindsSpansInList, IsRemembering};
-ghost use Rattle.regex_lite_meta.specs.LazyDfa.Remembering.{RemembersFor};
-ghost use Rattle.regex_lite_meta.specs.LazyDfa.Scanning.{best_told};
+ghost use Rattle.regex_lite_meta.specs.LazyDfa.Spans.{FindsSpansInList, IsDfaFor, IsDfaIfSome};
+ghost use Rattle.regex_lite_meta.specs.LazyDfa.Scanning.{best_reported};
 ghost use Rattle.regex_lite_engine.specs.Graph.StoredList.{table_of_list};
 ghost use Rattle.regex_lite_engine.specs.Search.Bounds.{characters_left};
 ghost use Rattle.regex_lite_engine.specs.Search.Counting.{CanCount};
@@ -16,9 +15,9 @@ use crate::anchored::find_anchored;
 use crate::lazy_dfa::automaton::LazyDfa;
 use crate::strategy::SpanSearch;
 use regex_lite_engine::nfa::list::GraphList;
-use regex_lite_engine::pikevm::beginning::Origin;
 use regex_lite_engine::pikevm::cache::{Cache, cache_for_list, restart};
 use regex_lite_engine::pikevm::run::advance;
+use regex_lite_engine::pikevm::thread_start::MatchStart;
 use regex_lite_engine::search::all_of_list::AllOfList;
 use regex_lite_engine::search::here::Here;
 use regex_lite_engine::search::list_patterns::ListPatterns;
@@ -30,7 +29,7 @@ use std::alloc::{AllocError, Global};
 pub(crate) struct ListSpanSearcher<'g> {
     /// The patterns of the list.
     patterns: ListPatterns<'g>,
-    cache: Cache<Origin>,
+    cache: Cache<MatchStart>,
     /// The lazy DFA, where it pays. On the heap, since most searchers have none and are moved
     /// often.
     dfa: Option<Box<LazyDfa>>,
@@ -77,7 +76,7 @@ impl<'g> ListSpanSearcher<'g> {
         list: &GraphList,
         haystack: &str,
         start: usize,
-    ) -> Option<(Origin, usize)>
+    ) -> Option<(MatchStart, usize)>
         requires some { 0 < length list.now.entries }
         requires boundary { IsCharBoundary haystack.now start }
         requires finds { FindsSpansInList list.now self.old }
@@ -89,7 +88,7 @@ impl<'g> ListSpanSearcher<'g> {
     {
         // Pattern numbers have 32 bits, since there are no more patterns.
         let _entries = list.entries();
-        if let Some(found) = find_remembering::<EARLIEST>(
+        if let Some(found) = find_by_dfa::<EARLIEST>(
             &mut self.dfa,
             list,
             &mut self.cache,
@@ -114,7 +113,7 @@ impl<'g> ListSpanSearcher<'g> {
         list: &GraphList,
         haystack: &str,
         start: usize,
-    ) -> Option<(Origin, usize)>
+    ) -> Option<(MatchStart, usize)>
         requires some { 0 < length list.now.entries }
         requires boundary { IsCharBoundary haystack.now start }
         requires finds { FindsSpansInList list.now self.old }
@@ -140,7 +139,7 @@ impl<'g> ListSpanSearcher<'g> {
 /// A lazy DFA of this list with an empty cache, on the heap.
 #[inline(never)]
 fn automaton_for(alloc: Global, list: &GraphList) -> Option<Box<LazyDfa>>
-    ensures { IfSome result (λ dfa. RemembersFor (table_of_list list.now) list.now.entries
+    ensures { IfSome result (λ dfa. IsDfaFor (table_of_list list.now) list.now.entries
         dfa.value) }
 {
     let dfa = LazyDfa::for_list(alloc, list)?;
@@ -150,23 +149,23 @@ fn automaton_for(alloc: Global, list: &GraphList) -> Option<Box<LazyDfa>>
 /// The match span found by the lazy DFA: of the match that starts first or, if EARLIEST, of one
 /// with the least end. `None` if there is no lazy DFA, or if the search gives it up: then it is
 /// dropped, and the search has to begin again.
-fn find_remembering<const EARLIEST: bool>(
+fn find_by_dfa<const EARLIEST: bool>(
     dfa: &mut Option<Box<LazyDfa>>,
     list: &GraphList,
-    cache: &mut Cache<Origin>,
+    cache: &mut Cache<MatchStart>,
     haystack: &str,
     start: usize,
-) -> Option<Option<(Origin, usize)>>
+) -> Option<Option<(MatchStart, usize)>>
     requires boundary { IsCharBoundary haystack.now start }
-    requires remembers { IsRemembering (table_of_list list.now) list.now.entries
+    requires is_dfa { IsDfaIfSome (table_of_list list.now) list.now.entries
         (length cache.old.best.row) (option_map (λ dfa. dfa.value) dfa.old) }
     requires between { IsBetween (table_of_list list.now) cache.old }
     requires counts { CanCount (table_of_list list.now) (length list.now.entries)
         (characters_left (chars haystack.now) (position_at haystack.now start)) }
     ensures found { IfSome result (λ found. IsFoundOf EARLIEST (table_of_list list.now)
         (chars haystack.now) list.now.entries (position_at haystack.now start)
-        (best_told found)) }
-    ensures remembers { IsRemembering (table_of_list list.now) list.now.entries
+        (best_reported found)) }
+    ensures is_dfa { IsDfaIfSome (table_of_list list.now) list.now.entries
         (length cache.new.best.row) (option_map (λ dfa. dfa.value) dfa.new) }
     ensures between { IsBetween (table_of_list list.now) cache.new }
     ensures without_slots { IfSome result (λ _. length cache.new.best.row ≡ 0) }
@@ -189,20 +188,20 @@ impl LazyDfa {
     pub(crate) fn find_in_list<const EARLIEST: bool>(
         &mut self,
         list: &GraphList,
-        cache: &mut Cache<Origin>,
+        cache: &mut Cache<MatchStart>,
         haystack: &str,
         start: usize,
-    ) -> Option<Option<(Origin, usize)>>
+    ) -> Option<Option<(MatchStart, usize)>>
         requires boundary { IsCharBoundary haystack.now start }
-        requires remembers { RemembersFor (table_of_list list.now) list.now.entries self.old }
+        requires is_dfa { IsDfaFor (table_of_list list.now) list.now.entries self.old }
         requires between { IsBetween (table_of_list list.now) cache.old }
         requires counts { CanCount (table_of_list list.now) (length list.now.entries)
             (characters_left (chars haystack.now) (position_at haystack.now start)) }
         requires width { length cache.old.walk.memory.row ≡ 0 }
         ensures found { IfSome result (λ found. IsFoundOf EARLIEST (table_of_list list.now)
             (chars haystack.now) list.now.entries (position_at haystack.now start)
-            (best_told found)) }
-        ensures remembers { RemembersFor (table_of_list list.now) list.now.entries self.new }
+            (best_reported found)) }
+        ensures is_dfa { IsDfaFor (table_of_list list.now) list.now.entries self.new }
         ensures between { IsBetween (table_of_list list.now) cache.new }
         ensures width { length cache.new.walk.memory.row ≡ 0 }
     {
@@ -211,8 +210,8 @@ impl LazyDfa {
         let all = AllOfList { list };
         let from = Here::at(haystack, start);
         let from = pass_over(&all, haystack, from);
-        let told = self.search::<_, EARLIEST>(&all, cache, haystack, from.at);
-        let Ok(found) = told else {
+        let reported = self.search::<_, EARLIEST>(&all, cache, haystack, from.at);
+        let Ok(found) = reported else {
             return None;
         };
         self.count_bytes(went(found, haystack).saturating_sub(start));
@@ -221,7 +220,7 @@ impl LazyDfa {
 }
 
 /// The offset up to which a search has scanned.
-fn went(found: Option<(Origin, usize)>, haystack: &str) -> usize {
+fn went(found: Option<(MatchStart, usize)>, haystack: &str) -> usize {
     match found {
         Some((_, end)) => end,
         None => haystack.len(),

@@ -1,5 +1,5 @@
 //! The lookup of a lazy DFA's states: a small hash table of their numbers, with open addressing.
-use crate::lazy_dfa::state::{Hit, StoredWay};
+use crate::lazy_dfa::state::{MatchFlag, StoredWay};
 use std::alloc::{AllocError, Global};
 
 /// The number of cells that are probed for a state. There are twice as many cells as states, so all
@@ -62,11 +62,11 @@ impl Lookup {
 }
 
 /// The hash of a state with these ways and this match flag.
-pub(super) fn hash_of(ways: &[StoredWay], hit: Hit) -> u64 {
-    let mut hash = match hit {
-        Hit::Nowhere => 0,
-        Hit::AtFirst(number) => mixed(1, number as u64),
-        Hit::AtLater(number) => mixed(2, number as u64),
+pub(super) fn hash_of(ways: &[StoredWay], match_flag: MatchFlag) -> u64 {
+    let mut hash = match match_flag {
+        MatchFlag::Nowhere => 0,
+        MatchFlag::AtFirst(number) => mixed(1, number as u64),
+        MatchFlag::AtLater(number) => mixed(2, number as u64),
     };
     for way in ways {
         hash = mixed(hash, way.bits());

@@ -5,21 +5,22 @@
 //! address of the targets stays in a register. Other characters remember the interval of the last
 //! one, since the letters of a script mostly lie in one. A class for each byte would save
 //! instructions for ASCII and cost more than that for Cyrillic texts. What changes only with a
-//! match or at the start state stays in memory, in `Standing`.
+//! match or at the start state stays in memory, in `DfaPosition`.
 ghost use Rattle.std.specs.Prelude.{◌≡◌, ◌+◌, ◌<◌, ◌≤◌, ℕ, IfSome, IsCharBoundary, None, Some};
 ghost use Rattle.std.specs.Prelude.{chars, false, true, length, slice_get};
-ghost use Rattle.regex_lite_meta.specs.LazyDfa.Automaton.{Remembers, State, first_left};
+ghost use Rattle.regex_lite_meta.specs.LazyDfa.Automaton.{IsDfaOf, State, first_left};
 ghost use Rattle.regex_lite_meta.specs.LazyDfa.Intervals.{IsInterval};
 ghost use Rattle.regex_lite_meta.specs.LazyDfa.Scanning.{EndsWith, GoesOn, IsScanning};
-ghost use Rattle.regex_lite_meta.specs.LazyDfa.Spots.{IsSpotAt, IsTurn, LeadsIfKnown, Takes};
-ghost use Rattle.regex_lite_meta.specs.LazyDfa.Stored.{HasEffect, hit_in};
-ghost use Rattle.regex_lite_meta.specs.LazyDfa.Targets.{IsRowOf};
+ghost use Rattle.regex_lite_meta.specs.LazyDfa.Cursors.{IsCursorAt, IsTransition, LeadsIfKnown};
+ghost use Rattle.regex_lite_meta.specs.LazyDfa.Cursors.{Takes};
+ghost use Rattle.regex_lite_meta.specs.LazyDfa.Stored.{HasKind, match_flag_in};
+ghost use Rattle.regex_lite_meta.specs.LazyDfa.NextStates.{IsRowOf};
 
 use crate::lazy_dfa::automaton::LazyDfa;
 use crate::lazy_dfa::classes::Interval;
-use crate::lazy_dfa::scan::Standing;
-use crate::lazy_dfa::spot::{Spot, take_by_effect, take_to_nothing};
-use crate::lazy_dfa::state::{Effect, Hit, Target};
+use crate::lazy_dfa::cursor::{DfaCursor, take_by_kind, take_to_nothing};
+use crate::lazy_dfa::scan::DfaPosition;
+use crate::lazy_dfa::state::{MatchFlag, NextState, TransitionKind};
 use regex_lite_engine::search::patterns::Patterns;
 
 impl LazyDfa {
@@ -32,9 +33,9 @@ impl LazyDfa {
         &self,
         patterns: &P,
         haystack: &str,
-        at: &mut Standing,
+        at: &mut DfaPosition,
     ) -> bool
-        requires remembers { Remembers (P.table patterns.now) (P.entries patterns.now) self.now }
+        requires is_dfa { IsDfaOf (P.table patterns.now) (P.entries patterns.now) self.now }
         requires none { EARLIEST ≡ true → at.old.best ≡ None }
         requires scanning { (low p : ℕ) × IsScanning (P.table patterns.now) (P.entries patterns.now)
             (chars haystack.now) low p self.now at.old }
@@ -45,40 +46,42 @@ impl LazyDfa {
         ensures none { EARLIEST ≡ true → result ≡ false → at.new.best ≡ None }
     {
         let mut near = Interval::none();
-        let mut spot = self.spot_of(at);
-        'turns: loop {
-            let (on, ascii) = self.pass_plain(patterns, haystack, spot, at);
-            spot = on;
+        let mut cursor = self.cursor_of(at);
+        'transitions: loop {
+            let (on, ascii) = self.pass_non_special(patterns, haystack, cursor, at);
+            cursor = on;
             // A separate exit: a shared one costs two moves per transition.
-            if spot.at >= haystack.len() {
-                self.settle_at(spot, at);
+            if cursor.at >= haystack.len() {
+                self.settle_at(cursor, at);
                 return false;
             }
-            let Some((target, end)) = self.turn(patterns, haystack, spot, ascii, &mut near) else {
+            let Some((next_state, end)) = self.transition(
+                patterns, haystack, cursor, ascii, &mut near,
+            ) else {
                 break;
             };
-            match take_by_effect::<EARLIEST>(spot, target, end, at) {
+            match take_by_kind::<EARLIEST>(cursor, next_state, end, at) {
                 Some(Some(on)) => {
-                    spot = on;
+                    cursor = on;
                     continue;
                 }
                 Some(None) => return true,
                 None => {}
             }
-            let Some(known) = target.remembered() else {
+            let Some(known) = next_state.cached() else {
                 break;
             };
             if self.is_last::<EARLIEST>(known) {
-                at.complete(0, spot.at);
+                at.complete(0, cursor.at);
                 return true;
             }
-            match self.take_by_state(spot, known, end, at) {
-                Some(Some(on)) => spot = on,
+            match self.take_by_state(cursor, known, end, at) {
+                Some(Some(on)) => cursor = on,
                 Some(None) => return true,
                 None => break,
             }
         }
-        self.settle_at(spot, at);
+        self.settle_at(cursor, at);
         false
     }
 
@@ -86,71 +89,73 @@ impl LazyDfa {
     /// Returns the scan's position then and, if the next character is ASCII too, the target of its
     /// transition.
     #[inline(always)]
-    fn pass_plain<P: Patterns>(
+    fn pass_non_special<P: Patterns>(
         &self,
         patterns: &P,
         haystack: &str,
-        from: Spot,
-        at: &Standing,
-    ) -> (Spot, Option<Target>)
-        requires remembers { Remembers (P.table patterns.now) (P.entries patterns.now) self.now }
-        requires scanning { (low p : ℕ) × IsSpotAt (P.table patterns.now) (P.entries patterns.now)
+        from: DfaCursor,
+        at: &DfaPosition,
+    ) -> (DfaCursor, Option<NextState>)
+        requires is_dfa { IsDfaOf (P.table patterns.now) (P.entries patterns.now) self.now }
+        requires scanning { (low p : ℕ) × IsCursorAt (P.table patterns.now) (P.entries patterns.now)
             (chars haystack.now) low p self.now from at.now }
-        ensures on { (low p : ℕ) → IsSpotAt (P.table patterns.now) (P.entries patterns.now)
+        ensures on { (low p : ℕ) → IsCursorAt (P.table patterns.now) (P.entries patterns.now)
             (chars haystack.now) low p self.now from at.now → (q : ℕ) × (p ≤ q)
-            × IsSpotAt (P.table patterns.now) (P.entries patterns.now) (chars haystack.now) low q
+            × IsCursorAt (P.table patterns.now) (P.entries patterns.now) (chars haystack.now) low q
             self.now result.0 at.now }
         ensures later { from.at ≤ result.0.at }
-        ensures next { IfSome result.1 (λ target. LeadsIfKnown (P.table patterns.now)
-            (P.entries patterns.now) self.now haystack.now result.0.at result.0.row target
+        ensures next { IfSome result.1 (λ next_state. LeadsIfKnown (P.table patterns.now)
+            (P.entries patterns.now) self.now haystack.now result.0.at result.0.row next_state
             (result.0.at + 1)) }
     {
         let bytes = haystack.as_bytes();
-        let targets = self.targets();
-        let mut spot = from;
-        'plain: while spot.at < bytes.len() {
-            let byte = bytes[spot.at];
+        let next_states = self.next_states();
+        let mut cursor = from;
+        'non_special: while cursor.at < bytes.len() {
+            let byte = bytes[cursor.at];
             if byte >= 128 {
-                return (spot, None);
+                return (cursor, None);
             }
-            let target = targets[spot.row + self.classes.ascii_class(byte)];
-            let Effect::Plain = target.effect else {
-                return (spot, Some(target));
+            let next_state = next_states[cursor.row + self.classes.ascii_class(byte)];
+            let TransitionKind::NonSpecial = next_state.kind else {
+                return (cursor, Some(next_state));
             };
-            spot = spot.after(target, spot.at + 1);
+            cursor = cursor.after(next_state, cursor.at + 1);
         }
-        (spot, None)
+        (cursor, None)
     }
 
     /// The target of the transition from this position, and the offset after the character. `None`
     /// at the end of the haystack. For an ASCII character the target may be given.
     #[inline(always)]
-    fn turn<P: Patterns>(
+    fn transition<P: Patterns>(
         &self,
         patterns: &P,
         haystack: &str,
-        spot: Spot,
-        ascii: Option<Target>,
+        cursor: DfaCursor,
+        ascii: Option<NextState>,
         near: &mut Interval,
-    ) -> Option<(Target, usize)>
-        requires remembers { Remembers (P.table patterns.now) (P.entries patterns.now) self.now }
-        requires boundary { IsCharBoundary haystack.now spot.at }
-        requires row { (x : ℕ) × IsRowOf self.now spot.row x }
-        requires inside { spot.at < length haystack.now }
-        requires ascii { IfSome ascii (λ target. LeadsIfKnown (P.table patterns.now)
-            (P.entries patterns.now) self.now haystack.now spot.at spot.row target (spot.at + 1)) }
+    ) -> Option<(NextState, usize)>
+        requires is_dfa { IsDfaOf (P.table patterns.now) (P.entries patterns.now) self.now }
+        requires boundary { IsCharBoundary haystack.now cursor.at }
+        requires row { (x : ℕ) × IsRowOf self.now cursor.row x }
+        requires inside { cursor.at < length haystack.now }
+        requires ascii { IfSome ascii (λ next_state. LeadsIfKnown (P.table patterns.now)
+            (P.entries patterns.now) self.now haystack.now cursor.at cursor.row next_state
+            (cursor.at + 1)) }
         requires near { IsInterval self.now.intervals.boundaries near.old }
-        ensures turn { IfSome result (λ turn. LeadsIfKnown (P.table patterns.now)
-            (P.entries patterns.now) self.now haystack.now spot.at spot.row turn.0 turn.1) }
+        ensures transition { IfSome result (λ transition. LeadsIfKnown (P.table patterns.now)
+            (P.entries patterns.now) self.now haystack.now cursor.at cursor.row transition.0
+            transition.1) }
         ensures near { IsInterval self.now.intervals.boundaries near.new }
     {
-        if let Some(target) = ascii {
-            return Some((target, spot.at + 1));
+        if let Some(next_state) = ascii {
+            return Some((next_state, cursor.at + 1));
         }
-        let Some((class, end)) = self.classes.ahead(haystack, spot.at, near) else {
+        let Some((class, end)) = self.classes.ahead(haystack, cursor.at, near) else {
             return None;
         };
-        Some((self.target(spot.row, class), end))
+        Some((self.next_state(cursor.row, class), end))
     }
 
     /// Takes the transition to this target and offset as the target's state says. Returns the
@@ -160,30 +165,30 @@ impl LazyDfa {
     #[inline(always)]
     fn take_by_state(
         &self,
-        spot: Spot,
-        target: Target,
+        cursor: DfaCursor,
+        next_state: NextState,
         end: usize,
-        at: &mut Standing,
-    ) -> Option<Option<Spot>>
-        requires to { target.state < length self.now.states }
-        ensures taken { (state : State) → slice_get self.now.states target.state ≡ Some state
-            → Takes spot.at target.row end state at.old at.new result }
-        ensures same { (state : State) → slice_get self.now.states target.state ≡ Some state
-            → state.hit ≡ None → at.new.best ≡ at.old.best }
+        at: &mut DfaPosition,
+    ) -> Option<Option<DfaCursor>>
+        requires to { next_state.state < length self.now.states }
+        ensures taken { (state : State) → slice_get self.now.states next_state.state ≡ Some state
+            → Takes cursor.at next_state.row end state at.old at.new result }
+        ensures same { (state : State) → slice_get self.now.states next_state.state ≡ Some state
+            → state.match_flag ≡ None → at.new.best ≡ at.old.best }
     {
-        let state = target.state as u16;
-        let hit = self.hit(state);
-        if let Hit::AtLater(_) = hit {
+        let state = next_state.state as u16;
+        let match_flag = self.match_flag(state);
+        if let MatchFlag::AtLater(_) = match_flag {
             return None;
         }
-        if let Hit::AtFirst(number) = hit {
-            at.complete(number, spot.at);
+        if let MatchFlag::AtFirst(number) = match_flag {
+            at.complete(number, cursor.at);
         }
-        let on = spot.after(target, end);
+        let on = cursor.after(next_state, end);
         if self.is_empty(state) {
-            return take_to_nothing(spot, on, at);
+            return take_to_nothing(cursor, on, at);
         }
-        at.first = self.first_after(state, at.first, spot.at);
+        at.first = self.first_after(state, at.first, cursor.at);
         Some(Some(on))
     }
 
@@ -206,34 +211,35 @@ impl LazyDfa {
     /// The origin of the match that is complete in this state.
     #[inline(always)]
     #[tactic(auto, using(crate::proofs::lazy_dfa::StoredStateLemmas::length_states))]
-    fn hit(&self, x: u16) -> Hit
+    fn match_flag(&self, x: u16) -> MatchFlag
         requires { x < length self.now.states }
         ensures { (state : State) → slice_get self.now.states x ≡ Some state
-            → hit_in result ≡ state.hit }
+            → match_flag_in result ≡ state.match_flag }
     {
-        self.states[x as usize].hit
+        self.states[x as usize].match_flag
     }
 
     /// Whether the transition completes a match, if EARLIEST.
     #[inline(always)]
-    fn is_last<const EARLIEST: bool>(&self, target: Target) -> bool
-        requires to { target.state < length self.now.states }
-        requires effect { (state : State)
-            → slice_get self.now.states target.state ≡ Some state → HasEffect target.effect state }
-        ensures none { (state : State) → slice_get self.now.states target.state ≡ Some state
-            → EARLIEST ≡ true → result ≡ false → state.hit ≡ None }
-        ensures hit { (state : State) → slice_get self.now.states target.state ≡ Some state
-            → result ≡ true → (EARLIEST ≡ true) × ¬ (state.hit ≡ None) }
+    fn is_last<const EARLIEST: bool>(&self, next_state: NextState) -> bool
+        requires to { next_state.state < length self.now.states }
+        requires kind { (state : State)
+            → slice_get self.now.states next_state.state ≡ Some state → HasKind next_state.kind
+            state }
+        ensures none { (state : State) → slice_get self.now.states next_state.state ≡ Some state
+            → EARLIEST ≡ true → result ≡ false → state.match_flag ≡ None }
+        ensures match_flag { (state : State) → slice_get self.now.states next_state.state ≡ Some
+            state → result ≡ true → (EARLIEST ≡ true) × ¬ (state.match_flag ≡ None) }
     {
         if !EARLIEST {
             return false;
         }
-        if let Effect::Plain = target.effect {
+        if let TransitionKind::NonSpecial = next_state.kind {
             return false;
         }
-        match self.hit(target.state as u16) {
-            Hit::Nowhere => false,
-            Hit::AtFirst(_) | Hit::AtLater(_) => true,
+        match self.match_flag(next_state.state as u16) {
+            MatchFlag::Nowhere => false,
+            MatchFlag::AtFirst(_) | MatchFlag::AtLater(_) => true,
         }
     }
 }

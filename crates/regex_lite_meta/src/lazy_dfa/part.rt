@@ -15,15 +15,15 @@ use regex_lite_engine::search::patterns::Patterns;
 
 /// Consecutive places: from `low` up to, but not including, `end`.
 #[derive(Clone, Copy)]
-pub(super) struct Part {
+pub(super) struct PlaceRange {
     pub low: usize,
     pub end: usize,
 }
 
-impl Part {
+impl PlaceRange {
     /// The least part that has the entries of all these patterns and that no arrow leaves. `None`
     /// without a pattern.
-    pub(super) fn of<P: Patterns>(all: &P) -> Option<Part>
+    pub(super) fn of<P: Patterns>(all: &P) -> Option<PlaceRange>
         requires { AreAllStarts (P.table all.now) (P.entries all.now) (P.starts all.now) }
         ensures { IfSome result (IsPartOf (P.table all.now) (P.entries all.now)) }
     {
@@ -31,7 +31,7 @@ impl Part {
         if patterns == 0 {
             return None;
         }
-        let mut part = Part::at(all.start(0).place);
+        let mut part = PlaceRange::at(all.start(0).place);
         'starts: for k in 0..patterns {
             part.take_in(all.start(k).place);
         }
@@ -40,11 +40,11 @@ impl Part {
     }
 
     /// Only the place with this number.
-    fn at(place: u32) -> Part
+    fn at(place: u32) -> PlaceRange
         ensures { result ≡ record { low = place; end = place + 1 } }
     {
         let low = place as usize;
-        Part { low, end: low + 1 }
+        PlaceRange { low, end: low + 1 }
     }
 
     /// Extends the part to the place with this number.
@@ -67,7 +67,7 @@ impl Part {
 
     /// Extends the part to the targets of this place's arrows.
     #[inline(always)]
-    fn take_in_targets(&mut self, place: &Place)
+    fn take_in_next_states(&mut self, place: &Place)
         requires order { self.old.low ≤ self.old.end }
         ensures taken { LeadsInto (IsInPart self.new) (place_of place.now) }
         ensures widens { Widens self.old self.new }
@@ -122,9 +122,9 @@ impl Part {
         'places: loop {
             if self.low < low {
                 low -= 1;
-                self.take_in_targets(&places[low]);
+                self.take_in_next_states(&places[low]);
             } else if end < self.end {
-                self.take_in_targets(&places[end]);
+                self.take_in_next_states(&places[end]);
                 end += 1;
             } else {
                 return;

@@ -8,9 +8,9 @@ ghost use Rattle.regex_lite_engine.specs.declared.nfa.place.Place as code;
 ghost use Rattle.regex_lite_engine.specs.Graph.Parts.{row_of};
 ghost use Rattle.regex_lite_engine.specs.Graph.Places.{reading_count, reading_of};
 ghost use Rattle.regex_lite_engine.specs.Graph.Stored.{LeadsBelow, place_of};
-ghost use Rattle.regex_lite_engine.specs.Search.Standing.{IsHere};
+ghost use Rattle.regex_lite_engine.specs.Search.Here.{IsHere};
 
-use crate::lazy_dfa::part::Part;
+use crate::lazy_dfa::part::PlaceRange;
 use regex_lite_engine::nfa::place::Place;
 use regex_lite_engine::search::here::{Here, byte_len};
 
@@ -40,7 +40,7 @@ fn reads(place: &Place) -> bool
 pub(super) fn reach_for(
     patterns: usize,
     places: &[Place],
-    part: Part,
+    part: PlaceRange,
     reading: usize,
 ) -> Option<usize>
     requires inside { part.end ≤ length places.now }
@@ -57,7 +57,7 @@ pub(super) fn reach_for(
 }
 
 /// Whether all arrows of the part's places lead to lower numbers, as they do if there are no loops.
-fn lead_down(places: &[Place], part: Part) -> bool
+fn lead_down(places: &[Place], part: PlaceRange) -> bool
     requires inside { part.end ≤ length places.now }
     ensures { result ≡ true → (q : ℕ) (place : code.Place) → IsInPart part q
         → slice_get places.now q ≡ Some place → LeadsBelow q (place_of place) }

@@ -3,31 +3,32 @@ ghost use Rattle.std.specs.Prelude.{◌≡◌, [], ◌<◌, ◌≤◌, ◌+◌, 
 ghost use Rattle.std.specs.Prelude.{IfSome, IsCharBoundary, IsSome, MatchOption, None};
 ghost use Rattle.std.specs.Prelude.{chars, false, length, map, slice_index, true};
 ghost use Rattle.regex_lite_meta.specs.LazyDfa.Automaton.{Automaton};
-ghost use Rattle.regex_lite_meta.specs.LazyDfa.Learning.{IsFirstAfterTurn, IsFirstStart, IsIn};
+ghost use Rattle.regex_lite_meta.specs.LazyDfa.Determinizing.{IsFirstAfterTransition, IsFirstStart};
+ghost use Rattle.regex_lite_meta.specs.LazyDfa.Determinizing.{IsIn};
 ghost use Rattle.regex_lite_meta.specs.LazyDfa.Running.{GoesOnWith, IsOnItsWay, NoneStartsBeforeOf};
 ghost use Rattle.regex_lite_meta.specs.LazyDfa.Running.{Stands, started_at, thread_from};
-ghost use Rattle.regex_lite_meta.specs.LazyDfa.Scanning.{best_told};
+ghost use Rattle.regex_lite_meta.specs.LazyDfa.Scanning.{best_reported};
 ghost use Rattle.regex_lite_syntax.specs.Text.{Text};
-ghost use Rattle.regex_lite_engine.specs.declared.pikevm.beginning.Origin.{Origin};
+ghost use Rattle.regex_lite_engine.specs.declared.pikevm.thread_start.MatchStart.{MatchStart};
 ghost use Rattle.regex_lite_engine.specs.Graph.Places.{Place};
 ghost use Rattle.regex_lite_engine.specs.Search.Bounds.{characters_left};
 ghost use Rattle.regex_lite_engine.specs.Search.Offsets.{position_at};
 ghost use Rattle.regex_lite_engine.specs.Search.Counting.{CanCount};
-ghost use Rattle.regex_lite_engine.specs.Pikevm.Searching.{IsHit, TurnsAgain};
+ghost use Rattle.regex_lite_engine.specs.Pikevm.Searching.{IsMatchFlag, StepsAgain};
 ghost use Rattle.regex_lite_engine.specs.Search.Starts.{AreAllStarts};
-ghost use Rattle.regex_lite_engine.specs.Search.Standing.{IsHere};
-ghost use Rattle.regex_lite_engine.specs.Pikevm.Turns.{EndsAt, best_of};
+ghost use Rattle.regex_lite_engine.specs.Search.Here.{IsHere};
+ghost use Rattle.regex_lite_engine.specs.Pikevm.Stepping.{EndsAt, best_of};
 
 use crate::lazy_dfa::state::StoredWay;
-use regex_lite_engine::pikevm::beginning::Origin;
 use regex_lite_engine::pikevm::cache::Cache;
 use regex_lite_engine::pikevm::memory::Memory;
+use regex_lite_engine::pikevm::thread_start::MatchStart;
 use regex_lite_engine::search::here::Here;
 use regex_lite_engine::search::patterns::Patterns;
 
 /// The position of a search, and its state, if that is known.
 #[derive(Clone, Copy)]
-pub(crate) struct Progress {
+pub(crate) struct Position {
     pub here: Here,
     pub state: Option<u16>,
     /// The first start, at which some threads of the state began.
@@ -38,9 +39,9 @@ pub(crate) struct Progress {
     pub anew: bool,
 }
 
-impl Progress {
+impl Position {
     /// The position of a search before its first step.
-    pub(crate) fn begun(here: Here) -> Progress
+    pub(crate) fn begun(here: Here) -> Position
         ensures is { result ≡ record {
           here = here;
           state = None;
@@ -49,7 +50,7 @@ impl Progress {
           anew = false;
         } }
     {
-        Progress {
+        Position {
             here,
             state: None,
             first: here.at,
@@ -60,14 +61,14 @@ impl Progress {
 
     /// The position of a search that came here by steps of the PikeVM. `None` if its first start is
     /// unknown.
-    pub(super) fn on_the_way(cache: &Cache<Origin>, here: Here) -> Option<Progress>
+    pub(super) fn on_the_way(cache: &Cache<MatchStart>, here: Here) -> Option<Position>
         ensures { (table : List (Place ℕ)) (haystack : Text) (entries : List ℕ) (s p : ℕ)
             (automaton : Automaton) → IsHere haystack p here
             → IsOnItsWay table haystack entries s s p cache.now
             → IfSome result (λ at. Stands table haystack entries s automaton at cache.now) }
     {
         let first = first_start(&cache.walk.memory, here.at)?;
-        Some(Progress {
+        Some(Position {
             here,
             state: None,
             first,
@@ -87,10 +88,10 @@ impl Progress {
     }
 
     /// The same position, in this state.
-    pub(super) fn with_state(self, state: Option<u16>) -> Progress
+    pub(super) fn with_state(self, state: Option<u16>) -> Position
         ensures { result ≡ record self { state = state } }
     {
-        Progress {
+        Position {
             here: self.here,
             state,
             first: self.first,
@@ -103,7 +104,7 @@ impl Progress {
 /// The first start of a search at this offset: the start of the most preferred thread, or the
 /// offset if there is no thread. `None` if that thread didn't begin before this offset, which
 /// doesn't happen.
-fn first_start(memory: &Memory<Origin>, at: usize) -> Option<usize>
+fn first_start(memory: &Memory<MatchStart>, at: usize) -> Option<usize>
     ensures { IfSome result (λ first.
         (first ≤ at) × IsFirstStart first at memory.now.threads) }
 {
@@ -116,8 +117,8 @@ fn first_start(memory: &Memory<Origin>, at: usize) -> Option<usize>
 
 /// The first start after the step at this position: the position itself, if the most preferred
 /// thread began there and there is no match. Then no thread with an earlier start is left.
-pub(super) fn first_after(cache: &Cache<Origin>, at: Progress) -> usize
-    ensures { IsFirstAfterTurn at.first at.here.at (best_of cache.now.best) result }
+pub(super) fn first_after(cache: &Cache<MatchStart>, at: Position) -> usize
+    ensures { IsFirstAfterTransition at.first at.here.at (best_of cache.now.best) result }
 {
     if cache.walk.memory.threads() == 0 || !cache.best.is_none() {
         return at.first;
@@ -132,7 +133,7 @@ pub(super) fn first_after(cache: &Cache<Origin>, at: Progress) -> usize
 
 /// Moves to the next position. The state is already that of the next position.
 #[inline(always)]
-pub(super) fn next_position(cache: &Cache<Origin>, haystack: &str, at: Progress) -> Progress
+pub(super) fn next_position(cache: &Cache<MatchStart>, haystack: &str, at: Position) -> Position
     requires here { (p : ℕ) × IsHere (chars haystack.now) p at.here }
     requires more { IsSome at.here.after }
     requires first { at.first ≤ at.here.at }
@@ -152,7 +153,7 @@ pub(super) fn next_position(cache: &Cache<Origin>, haystack: &str, at: Progress)
     } else {
         at.first
     };
-    Progress {
+    Position {
         here,
         state: at.state,
         first,
@@ -164,7 +165,7 @@ pub(super) fn next_position(cache: &Cache<Origin>, haystack: &str, at: Progress)
 /// Takes the PikeVM's step at this position, at which each pattern may start. Returns whether a
 /// match is complete there.
 pub(super) fn go_over<P: Patterns>(
-    cache: &mut Cache<Origin>,
+    cache: &mut Cache<MatchStart>,
     patterns: &P,
     haystack: &str,
     here: Here,
@@ -181,18 +182,18 @@ pub(super) fn go_over<P: Patterns>(
         cache.old
         → IsOnItsWay (P.table patterns.now) (chars haystack.now) (P.entries patterns.now) s from
         (p + 1) cache.new }
-    ensures again { TurnsAgain (P.table patterns.now)
+    ensures again { StepsAgain (P.table patterns.now)
         (P.starts patterns.now) here (started_at here.at) cache.old cache.new result }
-    ensures hit { IsHit result (best_of cache.old.best) (best_of cache.new.best) }
+    ensures match_flag { IsMatchFlag result (best_of cache.old.best) (best_of cache.new.best) }
     ensures ends { EndsAt here.at (best_of cache.old.best) (best_of cache.new.best) }
 {
     // The memory fits more threads than there are patterns.
     let _threads = cache.walk.memory.threads();
-    cache.turn::<_, false>(patterns, here)
+    cache.step::<_, false>(patterns, here)
 }
 
 /// Clears the threads and the match.
-pub(super) fn let_go(cache: &mut Cache<Origin>)
+pub(super) fn reset(cache: &mut Cache<MatchStart>)
     ensures threads { cache.new.walk.memory.threads ≡ [] }
     ensures none { best_of cache.new.best ≡ None }
     ensures kept { GoesOnWith cache.old cache.new }
@@ -202,7 +203,7 @@ pub(super) fn let_go(cache: &mut Cache<Origin>)
 }
 
 /// Whether a search with this cost can have this match: a match implies that a place was entered.
-pub(super) fn may_have(cache: &Cache<Origin>, found: Option<(Origin, usize)>) -> bool
+pub(super) fn may_have(cache: &Cache<MatchStart>, found: Option<(MatchStart, usize)>) -> bool
     ensures { result ≡ true → (found ≡ None) ⊎ (0 < cache.now.walk.steps.entered) }
 {
     found.is_none() || cache.walk.steps.entered() > 0
@@ -210,29 +211,29 @@ pub(super) fn may_have(cache: &Cache<Origin>, found: Option<(Origin, usize)>) ->
 
 /// Loads these ways as threads, all of which began at this start, and this match, if there is one.
 #[inline(never)]
-pub(super) fn take_up_ways(
-    cache: &mut Cache<Origin>,
+pub(super) fn load_ways(
+    cache: &mut Cache<MatchStart>,
     ways: &[StoredWay],
     first: usize,
-    found: Option<(Origin, usize)>,
+    found: Option<(MatchStart, usize)>,
 )
     requires few { length ways.now < cache.old.walk.memory.room }
     requires width { length cache.old.walk.memory.row ≡ 0 }
     requires best_width { length cache.old.best.row ≡ 0 }
     ensures threads { cache.new.walk.memory.threads ≡ map (thread_from first) ways.now }
-    ensures best { best_of cache.new.best ≡ best_told found }
+    ensures best { best_of cache.new.best ≡ best_reported found }
     ensures kept { GoesOnWith cache.old cache.new }
 {
-    let_go(cache);
+    reset(cache);
     for way in ways {
         cache.walk.memory.push_next(
             way.place,
-            Origin {
+            MatchStart {
                 at: first,
                 number: way.number,
             },
         );
     }
-    cache.walk.memory.turn_over();
+    cache.walk.memory.swap_lists();
     cache.best.keep(found);
 }

@@ -2,34 +2,33 @@
 ghost use Rattle.std.specs.Prelude.{◌≡◌, ◌↔◌, ◌+◌, ◌<◌, ◌⊎◌, [], ℕ, IfSome, IsCharBoundary};
 ghost use Rattle.std.specs.Prelude.{IsSome, IsTrue, None, Some, chars, false, length, slice_get};
 ghost use Rattle.std.specs.Prelude.{true};
-ghost use Rattle.regex_lite_meta.specs.LazyDfa.Automaton.{IsEmptyState, Remembers, State};
-ghost use Rattle.regex_lite_meta.specs.LazyDfa.Automaton.{first_left};
-ghost use Rattle.regex_lite_meta.specs.LazyDfa.Scanning.{EndsOrLeads, EndsWith, GoesOn};
-ghost use Rattle.regex_lite_meta.specs.LazyDfa.Scanning.{IsScanning, best_told};
+ghost use Rattle.regex_lite_meta.specs.LazyDfa.Automaton.{IsDfaOf, IsEmptyState, State, first_left};
+ghost use Rattle.regex_lite_meta.specs.LazyDfa.Scanning.{EndsOrLeads, EndsWith, GoesOn, IsScanning};
+ghost use Rattle.regex_lite_meta.specs.LazyDfa.Scanning.{best_reported};
 ghost use Rattle.regex_lite_syntax.specs.Text.{Text, before};
 ghost use Rattle.regex_lite_engine.specs.Search.Offsets.{position_at};
-ghost use Rattle.regex_lite_engine.specs.Search.Standing.{IsHere};
+ghost use Rattle.regex_lite_engine.specs.Search.Here.{IsHere};
 
 use crate::lazy_dfa::automaton::LazyDfa;
-use crate::lazy_dfa::state::{Hit, LookContext};
-use regex_lite_engine::pikevm::beginning::Origin;
+use crate::lazy_dfa::state::{LookContext, MatchFlag};
+use regex_lite_engine::pikevm::thread_start::MatchStart;
 use regex_lite_engine::search::here::{Here, last_char};
 use regex_lite_engine::search::patterns::{Patterns, pass_over};
 
 /// The position of a DFA search.
 #[derive(Clone, Copy)]
-pub(crate) struct Standing {
+pub(crate) struct DfaPosition {
     pub at: usize,
     pub state: u16,
     /// The first start, at which some threads of the state began.
     pub first: usize,
     /// The last offset without thread and match, or the first start if there was none.
-    pub idle_at: usize,
+    pub start_state_at: usize,
     /// The span of the last match that was found.
-    pub best: Option<(Origin, usize)>,
+    pub best: Option<(MatchStart, usize)>,
 }
 
-impl Standing {
+impl DfaPosition {
     /// Sets the last match to one of this pattern that began at the first start and ends at this
     /// offset.
     #[inline(always)]
@@ -38,23 +37,23 @@ impl Standing {
           best = Some (record { at = self.old.first; number = number }, end);
         } }
     {
-        let origin = Origin {
+        let match_start = MatchStart {
             at: self.first,
             number,
         };
-        self.best = Some((origin, end));
+        self.best = Some((match_start, end));
     }
 
     /// The match of this pattern that began at the first start and ends at the scan's position.
-    fn completed(&self, number: u32) -> Option<(Origin, usize)>
+    fn completed(&self, number: u32) -> Option<(MatchStart, usize)>
         ensures { result
             ≡ Some (record { at = self.now.first; number = number }, self.now.at) }
     {
-        let origin = Origin {
+        let match_start = MatchStart {
             at: self.first,
             number,
         };
-        Some((origin, self.at))
+        Some((match_start, self.at))
     }
 }
 
@@ -67,9 +66,9 @@ impl LazyDfa {
         &self,
         patterns: &P,
         haystack: &str,
-        at: &mut Standing,
+        at: &mut DfaPosition,
     ) -> bool
-        requires remembers { Remembers (P.table patterns.now) (P.entries patterns.now) self.now }
+        requires is_dfa { IsDfaOf (P.table patterns.now) (P.entries patterns.now) self.now }
         requires none { EARLIEST ≡ true → at.old.best ≡ None }
         requires scanning { (low p : ℕ) × IsScanning (P.table patterns.now) (P.entries patterns.now)
             (chars haystack.now) low p self.now at.old }
@@ -90,9 +89,9 @@ impl LazyDfa {
         &self,
         patterns: &P,
         haystack: &str,
-        at: &mut Standing,
+        at: &mut DfaPosition,
     ) -> bool
-        requires remembers { Remembers (P.table patterns.now) (P.entries patterns.now) self.now }
+        requires is_dfa { IsDfaOf (P.table patterns.now) (P.entries patterns.now) self.now }
         requires none { EARLIEST ≡ true → at.old.best ≡ None }
         requires scanning { (low p : ℕ) × IsScanning (P.table patterns.now) (P.entries patterns.now)
             (chars haystack.now) low p self.now at.old }
@@ -103,7 +102,7 @@ impl LazyDfa {
         ensures none { EARLIEST ≡ true → result ≡ false → at.new.best ≡ None }
     {
         'positions: loop {
-            if self.leap_on::<P, EARLIEST>(patterns, haystack, at) {
+            if self.run_with_skips::<P, EARLIEST>(patterns, haystack, at) {
                 return true;
             }
             if !self.skip(patterns, haystack, at) {
@@ -129,7 +128,12 @@ impl LazyDfa {
     /// would be faster.
     // Inlined, so that other positions cost no more than the test.
     #[inline(always)]
-    pub(super) fn skip<P: Patterns>(&self, patterns: &P, haystack: &str, at: &mut Standing) -> bool
+    pub(super) fn skip<P: Patterns>(
+        &self,
+        patterns: &P,
+        haystack: &str,
+        at: &mut DfaPosition,
+    ) -> bool
         requires scanning { (low p : ℕ) × IsScanning (P.table patterns.now) (P.entries patterns.now)
             (chars haystack.now) low p self.now at.old }
         ensures on { GoesOn (P.table patterns.now) (P.entries patterns.now)
@@ -140,16 +144,21 @@ impl LazyDfa {
         if at.at >= haystack.len() || at.best.is_some() || !self.is_empty(at.state) {
             return true;
         }
-        self.skip_idle(patterns, haystack, at)
+        self.skip_start_state(patterns, haystack, at)
     }
 
     /// Skips from the start state, without a match, to the next position at which a match can
     /// begin. Returns whether it could.
     #[inline(never)]
-    fn skip_idle<P: Patterns>(&self, patterns: &P, haystack: &str, at: &mut Standing) -> bool
+    fn skip_start_state<P: Patterns>(
+        &self,
+        patterns: &P,
+        haystack: &str,
+        at: &mut DfaPosition,
+    ) -> bool
         requires scanning { (low p : ℕ) × IsScanning (P.table patterns.now) (P.entries patterns.now)
             (chars haystack.now) low p self.now at.old }
-        requires none { best_told at.old.best ≡ None }
+        requires none { best_reported at.old.best ≡ None }
         requires empty { (state : State) → slice_get self.now.states at.old.state ≡ Some state
             → state.ways ≡ [] }
         ensures on { GoesOn (P.table patterns.now) (P.entries patterns.now)
@@ -158,17 +167,17 @@ impl LazyDfa {
     {
         let from = Here::at(haystack, at.at);
         let here = pass_over(patterns, haystack, from);
-        if self.is_worth_a_turn(patterns, from, here) && !self.knows(at.state, from.after) {
+        if self.is_worth_stepping(patterns, from, here) && !self.knows(at.state, from.after) {
             return false;
         }
         let Some(state) = self.empty_state(here.before) else {
             return false;
         };
-        *at = Standing {
+        *at = DfaPosition {
             at: here.at,
             state,
             first: here.at,
-            idle_at: here.at,
+            start_state_at: here.at,
             best: None,
         };
         true
@@ -194,23 +203,23 @@ impl LazyDfa {
     pub(crate) fn empty_state(&self, before: Option<char>) -> Option<u16>
         ensures { IfSome result (λ x. IsEmptyState self.now x before) }
     {
-        let side = self.side(before);
-        let x = self.starts.number(side);
+        let context = self.context(before);
+        let x = self.starts.number(context);
         if x as usize >= self.states.len() {
             return None;
         }
         let state = &self.states[x as usize];
-        if state.len == 0 && state.searching && self.sees_alike(state.before, side) {
+        if state.len == 0 && state.searching && self.sees_alike(state.before, context) {
             return Some(x);
         }
         None
     }
 
     /// Whether the two contexts are the same to the looks, if there are any.
-    fn sees_alike(&self, side: LookContext, other: LookContext) -> bool
-        ensures { result ≡ true → self.now.intervals.looks ≡ true → side ≡ other }
+    fn sees_alike(&self, context: LookContext, other: LookContext) -> bool
+        ensures { result ≡ true → self.now.intervals.looks ≡ true → context ≡ other }
     {
-        !self.classes.looks() || side.is(other)
+        !self.classes.looks() || context.is(other)
     }
 
     /// Whether the state has no threads.
@@ -228,24 +237,24 @@ impl LazyDfa {
     fn step<P: Patterns, const EARLIEST: bool>(
         &self,
         patterns: &P,
-        at: &Standing,
+        at: &DfaPosition,
         here: Here,
-    ) -> Option<(u16, Option<(Origin, usize)>)>
-        requires remembers { Remembers (P.table patterns.now) (P.entries patterns.now) self.now }
+    ) -> Option<(u16, Option<(MatchStart, usize)>)>
+        requires is_dfa { IsDfaOf (P.table patterns.now) (P.entries patterns.now) self.now }
         requires state { at.now.state < length self.now.states }
         requires none { EARLIEST ≡ true → at.now.best ≡ None }
         ensures led { (haystack : Text) (low p : ℕ) → IsScanning (P.table patterns.now)
             (P.entries patterns.now) haystack low p self.now at.now → IsHere haystack p here
-            → IfSome result (λ told. EndsOrLeads (P.table patterns.now) (P.entries patterns.now)
-            haystack low p self.now EARLIEST at.now told.0 told.1) }
-        ensures state { IfSome result (λ told. told.0 < length self.now.states) }
+            → IfSome result (λ reported. EndsOrLeads (P.table patterns.now) (P.entries patterns.now)
+            haystack low p self.now EARLIEST at.now reported.0 reported.1) }
+        ensures state { IfSome result (λ reported. reported.0 < length self.now.states) }
     {
         let class = self.classes.class(here.after);
-        let to = self.known_target(at.state, class)?.state as u16;
-        match self.states[to as usize].hit {
-            Hit::Nowhere => Some((to, at.best)),
-            Hit::AtFirst(number) => Some((to, at.completed(number))),
-            Hit::AtLater(number) => {
+        let to = self.cached_state(at.state, class)?.state as u16;
+        match self.states[to as usize].match_flag {
+            MatchFlag::Nowhere => Some((to, at.best)),
+            MatchFlag::AtFirst(number) => Some((to, at.completed(number))),
+            MatchFlag::AtLater(number) => {
                 if !EARLIEST {
                     return None;
                 }
@@ -259,12 +268,12 @@ impl LazyDfa {
         &self,
         here: Here,
         to: u16,
-        best: Option<(Origin, usize)>,
+        best: Option<(MatchStart, usize)>,
     ) -> bool
         requires { to < length self.now.states }
         ensures over { (state : State) → slice_get self.now.states to ≡ Some state
             → IsTrue result → EARLIEST ≡ false → (here.after ≡ None)
-            ⊎ (¬ (best_told best ≡ None) × (state.ways ≡ [])) }
+            ⊎ (¬ (best_reported best ≡ None) × (state.ways ≡ [])) }
         ensures earliest { IsTrue result → (here.after ≡ None) ⊎ ¬ (best ≡ None) }
         ensures none_yet { EARLIEST ≡ true → ¬ IsTrue result → best ≡ None }
         ensures none { (state : State) → slice_get self.now.states to ≡ Some state
@@ -281,10 +290,10 @@ impl LazyDfa {
     fn go_on(
         &self,
         haystack: &str,
-        at: &mut Standing,
+        at: &mut DfaPosition,
         here: Here,
         to: u16,
-        best: Option<(Origin, usize)>,
+        best: Option<(MatchStart, usize)>,
     )
         requires here { (p : ℕ) × IsHere (chars haystack.now) p here × IsSome here.after }
         requires state { to < length self.now.states }
@@ -292,10 +301,10 @@ impl LazyDfa {
             × IsHere (chars haystack.now) (p + 1) next × (next.at ≡ at.new.at) }
         ensures same { at.new ≡ record at.new { state = to; best = best } }
         ensures first { (state : State) → slice_get self.now.states to ≡ Some state
-            → ((state.ways ≡ []) × (at.new.first ≡ at.new.at) × (at.new.idle_at ≡ at.new.at))
+            → ((state.ways ≡ []) × (at.new.first ≡ at.new.at) × (at.new.start_state_at ≡ at.new.at))
             ⊎ (¬ (state.ways ≡ [])
             × (at.new.first ≡ first_left state.restarts at.old.first at.old.at)
-            × (at.new.idle_at ≡ at.old.idle_at)) }
+            × (at.new.start_state_at ≡ at.old.start_state_at)) }
     {
         let last = at.at;
         at.at = here.next(haystack).at;
@@ -303,7 +312,7 @@ impl LazyDfa {
         at.best = best;
         if self.is_empty(to) {
             at.first = at.at;
-            at.idle_at = at.at;
+            at.start_state_at = at.at;
         } else {
             at.first = self.first_after(to, at.first, last);
         }

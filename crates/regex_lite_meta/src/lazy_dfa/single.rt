@@ -5,25 +5,25 @@
 //! it goes on by the index from where it is: to begin again would count the same tries twice.
 ghost use Rattle.std.specs.Prelude.{◌≡◌, ◌<◌, ◌+◌, ℕ, IfErr, IfOk, IfSome};
 ghost use Rattle.std.specs.Prelude.{IsCharBoundary, None, chars, length, true};
-ghost use Rattle.regex_lite_meta.specs.LazyDfa.Scanning.{best_told};
+ghost use Rattle.regex_lite_meta.specs.LazyDfa.Scanning.{best_reported};
 ghost use Rattle.regex_lite_engine.specs.Graph.Parts.{IsOwnPart, row_of};
 ghost use Rattle.regex_lite_engine.specs.Graph.Renumbered.{arrows_of};
 ghost use Rattle.regex_lite_engine.specs.Search.Bounds.{IsBoundedBy, characters_left};
 ghost use Rattle.regex_lite_engine.specs.Search.Offsets.{position_at};
-ghost use Rattle.regex_lite_engine.specs.Search.Standing.{IsHere};
+ghost use Rattle.regex_lite_engine.specs.Search.Here.{IsHere};
 ghost use Rattle.regex_lite_engine.specs.Search.Starts.{AreAllStarts};
 ghost use Rattle.regex_lite_engine.specs.Search.Counting.{CanCount};
 ghost use Rattle.regex_lite_engine.specs.Search.NumberedOutcomes.{IsFoundOf};
 ghost use Rattle.regex_lite_engine.specs.Pikevm.Passing.{IsUnderWay};
 ghost use Rattle.regex_lite_engine.specs.Pikevm.Searching.{IsBetween, IsFresh};
-ghost use Rattle.regex_lite_engine.specs.Pikevm.Turns.{best_of};
+ghost use Rattle.regex_lite_engine.specs.Pikevm.Stepping.{best_of};
 
 use crate::lazy_dfa::automaton::LazyDfa;
-use crate::lazy_dfa::run::Progress;
-use crate::strategy::TURNS_WITHOUT;
-use regex_lite_engine::pikevm::beginning::Origin;
+use crate::lazy_dfa::run::Position;
+use crate::strategy::STEPS_BEFORE_DFA;
 use regex_lite_engine::pikevm::cache::Cache;
 use regex_lite_engine::pikevm::run::advance;
+use regex_lite_engine::pikevm::thread_start::MatchStart;
 use regex_lite_engine::search::here::Here;
 use regex_lite_engine::search::patterns::Patterns;
 use std::alloc::Global;
@@ -39,10 +39,10 @@ pub(crate) fn find_once<P: Patterns, A: Patterns, const EARLIEST: bool>(
     patterns: &mut P,
     all: &A,
     alloc: Global,
-    cache: &mut Cache<Origin>,
+    cache: &mut Cache<MatchStart>,
     haystack: &str,
     start: usize,
-) -> Option<(Origin, usize)>
+) -> Option<(MatchStart, usize)>
     requires all { AreAllStarts (A.table all.now) (A.entries all.now) (A.starts all.now) }
     requires table { A.table all.now ≡ P.table patterns.old }
     requires entries { A.entries all.now ≡ P.entries patterns.old }
@@ -52,7 +52,7 @@ pub(crate) fn find_once<P: Patterns, A: Patterns, const EARLIEST: bool>(
         (characters_left (chars haystack.now) (position_at haystack.now start)) }
     requires width { length cache.old.walk.memory.row ≡ 0 }
     ensures found { IsFoundOf EARLIEST (P.table patterns.old) (chars haystack.now)
-        (P.entries patterns.old) (position_at haystack.now start) (best_told result) }
+        (P.entries patterns.old) (position_at haystack.now start) (best_reported result) }
     ensures bounded { IsBoundedBy (length (P.table patterns.old))
         (arrows_of (P.table patterns.old) + length (P.entries patterns.old)) (chars haystack.now)
         (position_at haystack.now start) cache.new.walk.steps.tried
@@ -67,11 +67,11 @@ pub(crate) fn find_once<P: Patterns, A: Patterns, const EARLIEST: bool>(
     ensures width { length cache.new.walk.memory.row ≡ 0 }
 {
     let here = Here::at(haystack, start);
-    let soon = advance::<_, _, EARLIEST>(cache, patterns, haystack, here, Some(TURNS_WITHOUT));
+    let soon = advance::<_, _, EARLIEST>(cache, patterns, haystack, here, Some(STEPS_BEFORE_DFA));
     let Some(here) = soon else {
         return cache.best.found();
     };
-    match find_learning::<_, EARLIEST>(all, alloc, cache, haystack, here) {
+    match find_by_new_dfa::<_, EARLIEST>(all, alloc, cache, haystack, here) {
         Ok(found) => found,
         Err(here) => {
             advance::<_, _, EARLIEST>(cache, patterns, haystack, here, None);
@@ -82,13 +82,13 @@ pub(crate) fn find_once<P: Patterns, A: Patterns, const EARLIEST: bool>(
 
 /// Continues with a new lazy DFA. Returns the search's position if there is no memory for one, or
 /// if it is given up.
-fn find_learning<A: Patterns, const EARLIEST: bool>(
+fn find_by_new_dfa<A: Patterns, const EARLIEST: bool>(
     all: &A,
     alloc: Global,
-    cache: &mut Cache<Origin>,
+    cache: &mut Cache<MatchStart>,
     haystack: &str,
     from: Here,
-) -> Result<Option<(Origin, usize)>, Here>
+) -> Result<Option<(MatchStart, usize)>, Here>
     requires all { AreAllStarts (A.table all.now) (A.entries all.now) (A.starts all.now) }
     requires on { (s p : ℕ) × IsHere (chars haystack.now) p from
         × CanCount (A.table all.now) (length (A.entries all.now))
@@ -99,7 +99,7 @@ fn find_learning<A: Patterns, const EARLIEST: bool>(
     ensures found { (s p : ℕ) → IsHere (chars haystack.now) p from
         → IsUnderWay (A.table all.now) (chars haystack.now) (A.entries all.now) s p cache.old
         → IfOk result (λ found. IsFoundOf EARLIEST (A.table all.now) (chars haystack.now)
-        (A.entries all.now) s (best_told found)) }
+        (A.entries all.now) s (best_reported found)) }
     ensures bounded { (s p : ℕ) → IsHere (chars haystack.now) p from
         → IsUnderWay (A.table all.now) (chars haystack.now) (A.entries all.now) s p cache.old
         → IfOk result (λ _. IsBoundedBy (length (A.table all.now))
@@ -125,7 +125,7 @@ fn find_learning<A: Patterns, const EARLIEST: bool>(
     let Some(mut dfa) = LazyDfa::for_patterns(alloc, all) else {
         return Err(from);
     };
-    let Some(at) = Progress::on_the_way(cache, from) else {
+    let Some(at) = Position::on_the_way(cache, from) else {
         return Err(from);
     };
     let state = dfa.state_at(all, at, cache);

@@ -2,8 +2,8 @@
 //! in that span then finds its slots.
 ghost use Rattle.std.specs.Prelude.{◌≡◌, ◌∷◌, [], IfSome, IsCharBoundary, chars};
 ghost use Rattle.std.specs.Prelude.{length, true};
-ghost use Rattle.regex_lite_meta.specs.LazyDfa.Remembering.{FindsSpansIn, RemembersFor};
-ghost use Rattle.regex_lite_meta.specs.LazyDfa.Scanning.{span_told};
+ghost use Rattle.regex_lite_meta.specs.LazyDfa.Spans.{FindsSpansIn, IsDfaFor};
+ghost use Rattle.regex_lite_meta.specs.LazyDfa.Scanning.{span_reported};
 ghost use Rattle.regex_lite_engine.specs.Graph.Stored.{places_of};
 ghost use Rattle.regex_lite_engine.specs.Search.Counting.{IsCountable};
 ghost use Rattle.regex_lite_engine.specs.Search.Offsets.{position_at};
@@ -13,10 +13,10 @@ ghost use Rattle.regex_lite_engine.specs.Pikevm.Searching.{IsBetween};
 
 use crate::lazy_dfa::automaton::LazyDfa;
 use crate::strategy::SpanSearch;
-use regex_lite_engine::pikevm::beginning::Origin;
 use regex_lite_engine::pikevm::best::span_of;
 use regex_lite_engine::pikevm::cache::{Cache, cache_for, restart};
 use regex_lite_engine::pikevm::run::run;
+use regex_lite_engine::pikevm::thread_start::MatchStart;
 use regex_lite_engine::search::one_pattern::OnePattern;
 use std::alloc::Global;
 
@@ -24,7 +24,7 @@ use std::alloc::Global;
 #[derive(Drop)]
 pub(crate) struct SpanSearcher {
     dfa: Option<LazyDfa>,
-    cache: Cache<Origin>,
+    cache: Cache<MatchStart>,
 }
 
 impl SpanSearcher {
@@ -83,20 +83,20 @@ impl LazyDfa {
     pub(crate) fn find_span(
         &mut self,
         pattern: &OnePattern<'_>,
-        cache: &mut Cache<Origin>,
+        cache: &mut Cache<MatchStart>,
         haystack: &str,
         start: usize,
     ) -> Option<(usize, usize)>
         requires boundary { IsCharBoundary haystack.now start }
         requires all { pattern.now.may_start ≡ true }
-        requires remembers { RemembersFor (places_of pattern.now.table.now) (pattern.now.entry ∷ [])
+        requires is_dfa { IsDfaFor (places_of pattern.now.table.now) (pattern.now.entry ∷ [])
             self.old }
         requires between { IsBetween (places_of pattern.now.table.now) cache.old }
         requires countable { IsCountable (places_of pattern.now.table.now) }
         requires width { length cache.old.walk.memory.row ≡ 0 }
         ensures found { IsBestOutcomeOf (places_of pattern.now.table.now) (chars haystack.now)
-            (pattern.now.entry ∷ []) (position_at haystack.now start) (span_told result) }
-        ensures remembers { RemembersFor (places_of pattern.now.table.now) (pattern.now.entry ∷ [])
+            (pattern.now.entry ∷ []) (position_at haystack.now start) (span_reported result) }
+        ensures is_dfa { IsDfaFor (places_of pattern.now.table.now) (pattern.now.entry ∷ [])
             self.new }
         ensures between { IsBetween (places_of pattern.now.table.now) cache.new }
         ensures width { length cache.new.walk.memory.row ≡ 0 }

@@ -1,9 +1,9 @@
 //! The states of a lazy DFA.
 ghost use Rattle.std.specs.Prelude.{◌≡◌, ◌<◌, IfSome, Option, Some, true, ◌↔◌, IsTrue, None};
-ghost use Rattle.regex_lite_meta.specs.LazyDfa.Automaton.{KeptOrigin};
-ghost use Rattle.regex_lite_meta.specs.LazyDfa.Stored.{hit_in, is_known, is_restarting};
-ghost use Rattle.regex_lite_meta.specs.LazyDfa.Stored.{known_hit, last_hit};
-ghost use Rattle.regex_lite_meta.specs.LazyDfa.Intervals.{side_of};
+ghost use Rattle.regex_lite_meta.specs.LazyDfa.Automaton.{StoredStart};
+ghost use Rattle.regex_lite_meta.specs.LazyDfa.Stored.{is_known, is_restarting, known_match_flag};
+ghost use Rattle.regex_lite_meta.specs.LazyDfa.Stored.{last_match_flag, match_flag_in};
+ghost use Rattle.regex_lite_meta.specs.LazyDfa.Intervals.{context_of};
 ghost use Rattle.regex_lite_syntax.specs.Tree.Looks.{is_word};
 
 use std::mem::size_of;
@@ -20,7 +20,7 @@ pub(crate) struct StoredWay {
 /// The match flag of a state: the origin of the match that was complete, with the number of its
 /// pattern.
 #[derive(Clone, Copy)]
-pub(crate) enum Hit {
+pub(crate) enum MatchFlag {
     /// No match was complete.
     Nowhere,
     AtFirst(u32),
@@ -40,7 +40,7 @@ pub(crate) struct StoredState {
     /// The look context of the character before.
     pub before: LookContext,
     /// Whether a match was complete at the last position.
-    pub hit: Hit,
+    pub match_flag: MatchFlag,
 }
 
 // A lazy DFA has hundreds of them.
@@ -48,21 +48,21 @@ const _: () = prove!(size_of::<StoredState>() == 32);
 
 /// The target of a transition.
 #[derive(Clone, Copy)]
-pub(crate) struct Target {
+pub(crate) struct NextState {
     /// The start of the state's row in the list of all targets.
     pub row: u16,
     /// The number of the state.
     pub state: u8,
     // The last field, so that one comparison of all bytes tells whether the transition is plain.
-    pub effect: Effect,
+    pub kind: TransitionKind,
 }
 
 /// The flags of a transition: what it does besides changing the state, as far as that is known
 /// without reading the state.
 #[derive(Clone, Copy)]
-pub(crate) enum Effect {
+pub(crate) enum TransitionKind {
     /// Nothing: the state has threads, and no match was complete.
-    Plain,
+    NonSpecial,
     /// The state has threads, and a match of the first pattern was complete, which began at the
     /// first start.
     Completes,
@@ -81,7 +81,7 @@ pub(crate) enum Effect {
 }
 
 // A lazy DFA has thousands of them.
-const _: () = prove!(size_of::<Target>() == 4);
+const _: () = prove!(size_of::<NextState>() == 4);
 
 /// Whether the lists of ways are equal.
 pub(crate) fn are_same(ways: &[StoredWay], others: &[StoredWay]) -> bool
@@ -98,13 +98,13 @@ pub(crate) fn are_same(ways: &[StoredWay], others: &[StoredWay]) -> bool
     true
 }
 
-impl Target {
+impl NextState {
     /// The target, if the transition is cached.
     #[inline(always)]
-    pub(super) fn remembered(self) -> Option<Target>
-        ensures { IfSome result (λ target. (target ≡ self) × (is_known self.effect ≡ true)) }
+    pub(super) fn cached(self) -> Option<NextState>
+        ensures { IfSome result (λ next_state. (next_state ≡ self) × (is_known self.kind ≡ true)) }
     {
-        if let Effect::Unknown = self.effect {
+        if let TransitionKind::Unknown = self.kind {
             return None;
         }
         Some(self)
@@ -131,71 +131,71 @@ impl StoredState {
         &self,
         searching: bool,
         before: LookContext,
-        hit: Hit,
+        match_flag: MatchFlag,
         restarts: bool,
     ) -> bool
         ensures searching { result ≡ true → self.now.searching ≡ searching }
         ensures before { result ≡ true → self.now.before ≡ before }
-        ensures hit { result ≡ true → self.now.hit ≡ hit }
+        ensures match_flag { result ≡ true → self.now.match_flag ≡ match_flag }
         ensures restarts { result ≡ true → self.now.restarts ≡ restarts }
     {
         self.searching == searching
             && self.restarts == restarts
             && self.before.is(before)
-            && self.hit.is(hit)
+            && self.match_flag.is(match_flag)
     }
 
     /// The effect of a transition to this state.
-    pub(crate) fn effect(&self) -> Effect
+    pub(crate) fn kind(&self) -> TransitionKind
         ensures known { is_known result ≡ true }
-        ensures some { (hit : Option KeptOrigin) → known_hit result ≡ Some hit
+        ensures some { (match_flag : Option StoredStart) → known_match_flag result ≡ Some match_flag
             → 0 < self.now.len }
-        ensures hit { (hit : Option KeptOrigin) → known_hit result ≡ Some hit
-            → hit_in self.now.hit ≡ hit }
-        ensures restarts { (hit : Option KeptOrigin) → known_hit result ≡ Some hit
-            → self.now.restarts ≡ is_restarting result }
-        ensures none { (hit : Option KeptOrigin) → last_hit result ≡ Some hit
+        ensures match_flag { (match_flag : Option StoredStart) → known_match_flag result ≡ Some
+            match_flag → match_flag_in self.now.match_flag ≡ match_flag }
+        ensures restarts { (match_flag : Option StoredStart) → known_match_flag result ≡ Some
+            match_flag → self.now.restarts ≡ is_restarting result }
+        ensures none { (match_flag : Option StoredStart) → last_match_flag result ≡ Some match_flag
             → self.now.len ≡ 0 }
-        ensures last { (hit : Option KeptOrigin) → last_hit result ≡ Some hit
-            → hit_in self.now.hit ≡ hit }
+        ensures last { (match_flag : Option StoredStart) → last_match_flag result ≡ Some match_flag
+            → match_flag_in self.now.match_flag ≡ match_flag }
     {
-        match self.hit {
-            Hit::Nowhere => {
+        match self.match_flag {
+            MatchFlag::Nowhere => {
                 if self.len == 0 {
-                    Effect::Empties
+                    TransitionKind::Empties
                 } else if self.restarts {
-                    Effect::Restarts
+                    TransitionKind::Restarts
                 } else {
-                    Effect::Plain
+                    TransitionKind::NonSpecial
                 }
             }
-            Hit::AtFirst(0) => {
+            MatchFlag::AtFirst(0) => {
                 if self.len == 0 {
-                    Effect::Ends
+                    TransitionKind::Ends
                 } else if self.restarts {
-                    Effect::ByState
+                    TransitionKind::ByState
                 } else {
-                    Effect::Completes
+                    TransitionKind::Completes
                 }
             }
-            Hit::AtFirst(_) | Hit::AtLater(_) => Effect::ByState,
+            MatchFlag::AtFirst(_) | MatchFlag::AtLater(_) => TransitionKind::ByState,
         }
     }
 }
 
-impl Hit {
+impl MatchFlag {
     /// Whether the match flags are equal.
-    pub(crate) fn is(self, other: Hit) -> bool
+    pub(crate) fn is(self, other: MatchFlag) -> bool
         ensures { result ≡ true → self ≡ other }
     {
         match self {
-            Hit::Nowhere => matches!(other, Hit::Nowhere),
-            Hit::AtFirst(number) => match other {
-                Hit::AtFirst(of_other) => number == of_other,
+            MatchFlag::Nowhere => matches!(other, MatchFlag::Nowhere),
+            MatchFlag::AtFirst(number) => match other {
+                MatchFlag::AtFirst(of_other) => number == of_other,
                 _ => false,
             },
-            Hit::AtLater(number) => match other {
-                Hit::AtLater(of_other) => number == of_other,
+            MatchFlag::AtLater(number) => match other {
+                MatchFlag::AtLater(of_other) => number == of_other,
                 _ => false,
             },
         }
@@ -215,7 +215,7 @@ pub(crate) struct LookContext {
 impl LookContext {
     /// The look context of this character.
     pub(crate) fn of(c: Option<char>) -> LookContext
-        ensures { result ≡ side_of c }
+        ensures { result ≡ context_of c }
     {
         let Some(c) = c else {
             return LookContext::none();
@@ -230,7 +230,7 @@ impl LookContext {
 
     /// The look context without a character.
     pub(crate) fn none() -> LookContext
-        ensures { result ≡ side_of None }
+        ensures { result ≡ context_of None }
     {
         LookContext {
             is_none: true,

@@ -4,13 +4,13 @@ ghost use Rattle.std.specs.Prelude.{◌+◌, ℕ, chars};
 ghost use Rattle.regex_lite_engine.specs.Graph.Stored.{places_of};
 ghost use Rattle.regex_lite_engine.specs.Pikevm.Searching.{IsBetween, IsFresh};
 ghost use Rattle.regex_lite_engine.specs.Search.Counting.{IsCountable};
-ghost use Rattle.regex_lite_engine.specs.Search.Standing.{IsHere};
+ghost use Rattle.regex_lite_engine.specs.Search.Here.{IsHere};
 ghost use Rattle.regex_lite_meta.specs.ListPass.{PassKnows};
 
 use crate::list_matches::status::Status;
-use regex_lite_engine::pikevm::beginning::Unkept;
 use regex_lite_engine::pikevm::cache::Cache;
 use regex_lite_engine::pikevm::run::is_done;
+use regex_lite_engine::pikevm::thread_start::NoStart;
 use regex_lite_engine::search::here::Here;
 use regex_lite_engine::search::one_pattern::OnePattern;
 
@@ -19,7 +19,7 @@ use regex_lite_engine::search::one_pattern::OnePattern;
 // Not inlined, so that its loop keeps its registers.
 #[inline(never)]
 pub(super) fn attempt(
-    cache: &mut Cache<Unkept>,
+    cache: &mut Cache<NoStart>,
     pattern: &mut OnePattern<'_>,
     haystack: &str,
     from: Here,
@@ -27,7 +27,7 @@ pub(super) fn attempt(
     requires here { (p : ℕ) × IsHere (chars haystack.now) p from }
     requires fresh { IsFresh (places_of pattern.old.table.now) cache.old }
     requires countable { IsCountable (places_of pattern.old.table.now) }
-    ensures told { (p : ℕ) → IsHere (chars haystack.now) p from
+    ensures reported { (p : ℕ) → IsHere (chars haystack.now) p from
         → PassKnows (places_of pattern.old.table.now) haystack.now pattern.old.entry p (p + 1)
         result }
     ensures between { IsBetween (places_of pattern.old.table.now) cache.new }

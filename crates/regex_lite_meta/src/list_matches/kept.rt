@@ -14,11 +14,11 @@ ghost use Rattle.regex_lite_engine.specs.Search.Bounds.{IsBoundedBy};
 ghost use Rattle.regex_lite_engine.specs.Search.Counting.{IsCountable};
 ghost use Rattle.regex_lite_engine.specs.Search.Offsets.{position_at};
 ghost use Rattle.regex_lite_engine.specs.Pikevm.Searching.{IsBetween, IsFresh};
-ghost use Rattle.regex_lite_engine.specs.Pikevm.Turns.{best_of};
-ghost use Rattle.regex_lite_meta.specs.ListMatches.{AreKeptFor, IsToldOf, LearnsFor};
+ghost use Rattle.regex_lite_engine.specs.Pikevm.Stepping.{best_of};
+ghost use Rattle.regex_lite_meta.specs.ListMatches.{AreKeptFor, IsDfaSearcherFor, IsReportedOf};
 ghost use Rattle.regex_lite_meta.specs.ListMatches.{NeedsNoMemory};
-ghost use Rattle.regex_lite_engine.specs.Search.Standing.{IsHere};
-ghost use Rattle.regex_lite_meta.specs.ListPass.{PassKnows, IsToldFrom};
+ghost use Rattle.regex_lite_engine.specs.Search.Here.{IsHere};
+ghost use Rattle.regex_lite_meta.specs.ListPass.{PassKnows, IsReportedFrom};
 
 use crate::lazy_dfa::single::find_once;
 use crate::list_matches::attempt::attempt;
@@ -27,9 +27,9 @@ use crate::strategy::{Searched, Strategy, Wanted, choose};
 use regex_lite_engine::Steps;
 use regex_lite_engine::nfa::list::GraphList;
 use regex_lite_engine::nfa::table::Table;
-use regex_lite_engine::pikevm::beginning::{Origin, Unkept};
 use regex_lite_engine::pikevm::cache::{Cache, cache_for, restart};
 use regex_lite_engine::pikevm::run::run;
+use regex_lite_engine::pikevm::thread_start::{MatchStart, NoStart};
 use regex_lite_engine::search::here::Here;
 use regex_lite_engine::steps::no_steps;
 use std::alloc::{AllocError, Global};
@@ -39,9 +39,9 @@ use std::alloc::{AllocError, Global};
 pub(crate) struct Kept {
     alloc: Global,
     /// The memory of the PikeVM.
-    sets: Option<Cache<Unkept>>,
+    sets: Option<Cache<NoStart>>,
     /// The memory of searches with a lazy DFA.
-    learning: Option<Box<Learning>>,
+    dfa_searcher: Option<Box<DfaSearcher>>,
 }
 
 impl Kept {
@@ -52,7 +52,7 @@ impl Kept {
         Kept {
             alloc,
             sets: None,
-            learning: None,
+            dfa_searcher: None,
         }
     }
 
@@ -74,7 +74,7 @@ impl Kept {
         Ok(Kept {
             alloc,
             sets: Some(sets),
-            learning: None,
+            dfa_searcher: None,
         })
     }
 
@@ -91,17 +91,19 @@ impl Kept {
         requires number { number < length list.now.entries }
         requires boundary { IsCharBoundary haystack.now start }
         requires kept { AreKeptFor list.now self.old }
-        ensures told { IfOk result (λ told. IsToldFrom (table_of_list list.now) haystack.now
-            (slice_index list.now.entries number) (position_at haystack.now start) told.0) }
-        ensures found { IfOk result (λ told. (trees : List Tree) (tree : Tree)
+        ensures reported { IfOk result
+            (λ reported. IsReportedFrom (table_of_list list.now) haystack.now
+            (slice_index list.now.entries number) (position_at haystack.now start) reported.0) }
+        ensures found { IfOk result (λ reported. (trees : List Tree) (tree : Tree)
             → AreRegularPatterns trees → IsGraphOfList trees list.now
-            → HasTree trees number tree → (IsTrue told.0
+            → HasTree trees number tree → (IsTrue reported.0
             ↔ HasMatchFrom tree (chars haystack.now) (position_at haystack.now start))) }
-        ensures cost { IfOk result (λ told. (trees : List Tree) (tree : Tree)
+        ensures cost { IfOk result (λ reported. (trees : List Tree) (tree : Tree)
             → IsGraphOfList trees list.now → HasTree trees number tree
             → IsBoundedBy (whole_places tree) (whole_arrows tree + 1) (chars haystack.now)
-            (position_at haystack.now start) told.1.tried told.1.entered told.1.looked) }
-        ensures entered { IfOk result (λ told. IsTrue told.0 → 0 < told.1.entered) }
+            (position_at haystack.now start) reported.1.tried reported.1.entered
+            reported.1.looked) }
+        ensures entered { IfOk result (λ reported. IsTrue reported.0 → 0 < reported.1.entered) }
         ensures kept { AreKeptFor list.now self.new }
         ensures ready { NeedsNoMemory self.old → NeedsNoMemory self.new × IfErr result (λ _. ⊥) }
     {
@@ -129,14 +131,14 @@ impl Kept {
         requires number { number < length list.now.entries }
         requires boundary { IsCharBoundary haystack.now start }
         requires kept { AreKeptFor list.now self.old }
-        ensures told { IfOk result (IsToldOf (table_of_list list.now) (chars haystack.now)
+        ensures reported { IfOk result (IsReportedOf (table_of_list list.now) (chars haystack.now)
             (slice_index list.now.entries number) (position_at haystack.now start)) }
         ensures kept { AreKeptFor list.now self.new }
         ensures ready { NeedsNoMemory self.old → NeedsNoMemory self.new × IfErr result (λ _. ⊥) }
     {
-        if pays_to_learn(list, number, haystack.len() - start) {
-            if let Some(told) = self.search_learning(list, number, haystack, start) {
-                return Ok(told);
+        if dfa_pays(list, number, haystack.len() - start) {
+            if let Some(reported) = self.search_with_dfa(list, number, haystack, start) {
+                return Ok(reported);
             }
         }
         self.search_by_sets(list, number, haystack, start)
@@ -154,13 +156,13 @@ impl Kept {
         requires number { number < length list.now.entries }
         requires here { (p : ℕ) × IsHere (chars haystack.now) p here }
         requires kept { AreKeptFor list.now self.old }
-        ensures told { IfOk result (λ status. (p : ℕ) → IsHere (chars haystack.now) p here
+        ensures reported { IfOk result (λ status. (p : ℕ) → IsHere (chars haystack.now) p here
             → PassKnows (table_of_list list.now) haystack.now (slice_index list.now.entries number)
             p (p + 1) status) }
         ensures kept { AreKeptFor list.now self.new }
         ensures ready { NeedsNoMemory self.old → NeedsNoMemory self.new × IfErr result (λ _. ⊥) }
     {
-        if pays_to_learn(list, number, haystack.len() - here.at) {
+        if dfa_pays(list, number, haystack.len() - here.at) {
             return Ok(Status::Left(here.at));
         }
         let mut pattern = list.pattern(number);
@@ -187,7 +189,7 @@ impl Kept {
         requires number { number < length list.now.entries }
         requires boundary { IsCharBoundary haystack.now start }
         requires kept { AreKeptFor list.now self.old }
-        ensures told { IfOk result (IsToldOf (table_of_list list.now) (chars haystack.now)
+        ensures reported { IfOk result (IsReportedOf (table_of_list list.now) (chars haystack.now)
             (slice_index list.now.entries number) (position_at haystack.now start)) }
         ensures kept { AreKeptFor list.now self.new }
         ensures ready { NeedsNoMemory self.old → NeedsNoMemory self.new × IfErr result (λ _. ⊥) }
@@ -195,16 +197,16 @@ impl Kept {
         let mut pattern = list.pattern(number);
         let mut cache = memory_again(self.alloc, pattern.table, self.sets.take())?;
         run::<_, _, true>(&mut cache, &mut pattern, haystack, start);
-        let told = told_by(&cache);
+        let reported = reported_by(&cache);
         self.sets.replace(cache);
-        Ok(told)
+        Ok(reported)
     }
 
     /// What [`Kept::search_from`] returns, with a lazy DFA if the search isn't over soon. `None` if
     /// there is no memory for that.
     // Not inlined, so that searches in short haystacks don't pay for it.
     #[inline(never)]
-    fn search_learning(
+    fn search_with_dfa(
         &mut self,
         list: &GraphList,
         number: usize,
@@ -214,24 +216,24 @@ impl Kept {
         requires number { number < length list.now.entries }
         requires boundary { IsCharBoundary haystack.now start }
         requires kept { AreKeptFor list.now self.old }
-        ensures told { IfSome result (IsToldOf (table_of_list list.now) (chars haystack.now)
+        ensures reported { IfSome result (IsReportedOf (table_of_list list.now) (chars haystack.now)
             (slice_index list.now.entries number) (position_at haystack.now start)) }
         ensures kept { AreKeptFor list.now self.new }
         ensures ready { NeedsNoMemory self.old → NeedsNoMemory self.new }
     {
-        let mut learning = match self.learning.take() {
-            Some(learning) => learning,
-            None => Learning::new(self.alloc, list).ok()?,
+        let mut dfa_searcher = match self.dfa_searcher.take() {
+            Some(dfa_searcher) => dfa_searcher,
+            None => DfaSearcher::new(self.alloc, list).ok()?,
         };
-        let told = learning.search(list, number, haystack, start);
-        self.learning.replace(learning);
-        Some(told)
+        let reported = dfa_searcher.search(list, number, haystack, start);
+        self.dfa_searcher.replace(dfa_searcher);
+        Some(reported)
     }
 }
 
 /// Whether a search for the pattern with this number in this many bytes uses a lazy DFA.
 #[inline(always)]
-fn pays_to_learn(list: &GraphList, number: usize, bytes: usize) -> bool
+fn dfa_pays(list: &GraphList, number: usize, bytes: usize) -> bool
     requires { number < length list.now.entries }
 {
     let pattern = list.pattern(number);
@@ -244,12 +246,12 @@ fn pays_to_learn(list: &GraphList, number: usize, bytes: usize) -> bool
 
 /// The memory of searches for single patterns of a list with a lazy DFA.
 #[derive(Drop)]
-struct Learning {
+struct DfaSearcher {
     alloc: Global,
-    cache: Cache<Origin>,
+    cache: Cache<MatchStart>,
 }
 
-impl Learning {
+impl DfaSearcher {
     /// The memory for the patterns of this list.
     ///
     /// Condition: the list has a pattern.
@@ -257,13 +259,13 @@ impl Learning {
     /// # Errors
     ///
     /// If memory runs out.
-    fn new(alloc: Global, list: &GraphList) -> Result<Box<Learning>, AllocError>
+    fn new(alloc: Global, list: &GraphList) -> Result<Box<DfaSearcher>, AllocError>
         requires { 0 < length list.now.entries }
-        ensures { IfOk result (λ learning. LearnsFor list.now learning.value) }
+        ensures { IfOk result (λ dfa_searcher. IsDfaSearcherFor list.now dfa_searcher.value) }
     {
         let _patterns = list.len();
-        let cache = cache_for::<Origin>(alloc, list.table(), 0)?;
-        Ok(Box::new(alloc, Learning { alloc, cache })?)
+        let cache = cache_for::<MatchStart>(alloc, list.table(), 0)?;
+        Ok(Box::new(alloc, DfaSearcher { alloc, cache })?)
     }
 
     /// Whether the pattern with this number matches from this offset on, and the cost of the
@@ -277,15 +279,15 @@ impl Learning {
     ) -> (bool, Steps)
         requires number { number < length list.now.entries }
         requires boundary { IsCharBoundary haystack.now start }
-        requires learns { LearnsFor list.now self.old }
-        ensures told { IsToldOf (table_of_list list.now) (chars haystack.now)
+        requires learns { IsDfaSearcherFor list.now self.old }
+        ensures reported { IsReportedOf (table_of_list list.now) (chars haystack.now)
             (slice_index list.now.entries number) (position_at haystack.now start) result }
-        ensures learns { LearnsFor list.now self.new }
+        ensures learns { IsDfaSearcherFor list.now self.new }
     {
         let mut pattern = list.pattern(number);
         let mut all = list.pattern(number);
         all.may_start = true;
-        let Learning { alloc, cache } = self;
+        let DfaSearcher { alloc, cache } = self;
         restart(cache);
         let found = find_once::<_, _, true>(&mut pattern, &all, *alloc, cache, haystack, start);
         (found.is_some(), cache.walk.steps)
@@ -302,8 +304,8 @@ impl Learning {
 fn memory_again(
     alloc: Global,
     table: &Table,
-    kept: Option<Cache<Unkept>>,
-) -> Result<Cache<Unkept>, AllocError>
+    kept: Option<Cache<NoStart>>,
+) -> Result<Cache<NoStart>, AllocError>
     requires some { 0 < length table.now.places }
     requires ready { IfSome kept (λ cache. IsBetween (places_of table.now) cache
         × IsCountable (places_of table.now)) }
@@ -319,7 +321,7 @@ fn memory_again(
 }
 
 /// Whether the search in this memory found a match, and its cost.
-fn told_by(cache: &Cache<Unkept>) -> (bool, Steps)
+fn reported_by(cache: &Cache<NoStart>) -> (bool, Steps)
     ensures found { result.0 ≡ is_some (best_of cache.now.best) }
     ensures steps { result.1 ≡ cache.now.walk.steps }
 {

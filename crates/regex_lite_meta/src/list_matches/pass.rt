@@ -6,9 +6,9 @@ ghost use Rattle.regex_lite_engine.specs.Graph.SideBySide.{AreRegularPatterns};
 ghost use Rattle.regex_lite_engine.specs.Graph.StoredList.{IsGraphOfList, table_of_list};
 ghost use Rattle.regex_lite_engine.specs.Search.AnswerOfList.{TellsWhich};
 ghost use Rattle.regex_lite_engine.specs.Search.Offsets.{position_at};
-ghost use Rattle.regex_lite_engine.specs.Search.Standing.{IsHere};
+ghost use Rattle.regex_lite_engine.specs.Search.Here.{IsHere};
 ghost use Rattle.regex_lite_meta.specs.ListMatches.{AreKeptFor, NeedsNoMemory};
-ghost use Rattle.regex_lite_meta.specs.ListPass.{PassKnowsAll, EndsPass, IsPassOf, IsToldFrom};
+ghost use Rattle.regex_lite_meta.specs.ListPass.{PassKnowsAll, EndsPass, IsPassOf, IsReportedFrom};
 
 use crate::list_matches::kept::Kept;
 use crate::list_matches::status::{Rest, Status};
@@ -160,10 +160,10 @@ impl<'g> ListPass<'g> {
         requires kept { AreKeptFor list.now kept.old }
         requires passed { (s : ℕ)
             × EndsPass list.now haystack.now s self.now.statuses.items left }
-        ensures told { IfOk result (λ _. (s : ℕ)
+        ensures reported { IfOk result (λ _. (s : ℕ)
             → EndsPass list.now haystack.now s self.now.statuses.items left
             → (number : ℕ) → number < length list.now.entries
-            → IsToldFrom (table_of_list list.now) haystack.now
+            → IsReportedFrom (table_of_list list.now) haystack.now
             (slice_index list.now.entries number) s (slice_index_or matched.new number false)) }
         ensures length { length matched.new ≡ length matched.old }
         ensures kept { AreKeptFor list.now kept.new }

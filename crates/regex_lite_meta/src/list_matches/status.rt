@@ -2,7 +2,7 @@
 ghost use Rattle.std.specs.Prelude.{◌≡◌, ◌⊎◌, ◌+◌, ◌<◌, ℕ, List, IfSome, IsTrue, IsUtf8, None};
 ghost use Rattle.std.specs.Prelude.{chars, length};
 ghost use Rattle.regex_lite_engine.specs.Graph.Places.{Place};
-ghost use Rattle.regex_lite_engine.specs.Search.Standing.{IsHere};
+ghost use Rattle.regex_lite_engine.specs.Search.Here.{IsHere};
 ghost use Rattle.regex_lite_meta.specs.ListPass.{PassKnows, IsRest};
 ghost use Rattle.regex_lite_meta.specs.declared.list_matches.status.Status.TheVariants.{Open};
 

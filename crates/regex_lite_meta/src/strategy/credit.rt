@@ -36,7 +36,7 @@ const TRY: usize = 200;
 /// Whether a pass over a haystack pays for this list. It doesn't if no match begins with a
 /// character, as for anchored patterns: each of these is known at once to match nowhere else.
 pub(crate) fn pays_in_one_pass(list: &GraphList) -> bool {
-    list.len() >= LEAST_PATTERNS && list.heads().any.any
+    list.len() >= LEAST_PATTERNS && list.prefixes().any.any
 }
 
 /// What a pass may still spend. It earns the cost of the searches for the open patterns, and pays

@@ -4,21 +4,21 @@ ghost use Rattle.std.specs.Prelude.{◌≡◌};
 use regex_lite_engine::nfa::list::GraphList;
 use regex_lite_engine::nfa::table::Table;
 use regex_lite_engine::search::pattern_filter::PatternFilter;
-use regex_lite_syntax::prefilter::{Filter, ListHeads, Prefilter};
+use regex_lite_syntax::prefilter::{Filter, Prefilter, PrefixIndex};
 
 /// The graph of one pattern or of several, and where their matches can begin. What takes time to
 /// compute is computed only when it is needed.
 #[derive(Clone, Copy)]
 pub(crate) struct Searched<'g> {
     pub(super) table: &'g Table,
-    heads: HeadsOf<'g>,
+    prefixes: PrefixesOf<'g>,
 }
 
 /// What is known about the characters with which a match begins.
 #[derive(Clone, Copy)]
-enum HeadsOf<'g> {
+enum PrefixesOf<'g> {
     One(PatternFilter<'g>),
-    Several(&'g ListHeads),
+    Several(&'g PrefixIndex),
 }
 
 /// How selective the starts of matches are.
@@ -46,7 +46,7 @@ impl<'g> Searched<'g> {
     {
         Searched {
             table,
-            heads: HeadsOf::One(filter),
+            prefixes: PrefixesOf::One(filter),
         }
     }
 
@@ -57,19 +57,19 @@ impl<'g> Searched<'g> {
     {
         Searched {
             table: list.table(),
-            heads: HeadsOf::Several(list.heads()),
+            prefixes: PrefixesOf::Several(list.prefixes()),
         }
     }
 
     /// How selective the starts of matches are.
     #[inline(always)]
-    pub(super) fn beginning(&self) -> Selectivity {
-        match self.heads {
-            HeadsOf::One(PatternFilter::Whole(filter)) => self.beginning_by(filter),
+    pub(super) fn selectivity(&self) -> Selectivity {
+        match self.prefixes {
+            PrefixesOf::One(PatternFilter::Whole(filter)) => self.selectivity_by(filter),
             // A pattern that begins with two known characters is skipped at most positions.
-            HeadsOf::One(PatternFilter::Literal(_)) => Selectivity::Indexed,
-            HeadsOf::Several(heads) => {
-                if heads.begin_often() {
+            PrefixesOf::One(PatternFilter::Literal(_)) => Selectivity::Indexed,
+            PrefixesOf::Several(prefixes) => {
+                if prefixes.is_unselective() {
                     Selectivity::Often
                 } else {
                     Selectivity::Indexed
@@ -80,7 +80,7 @@ impl<'g> Searched<'g> {
 
     /// How selective the starts of matches of one pattern are.
     #[inline(always)]
-    fn beginning_by(&self, filter: &Filter) -> Selectivity {
+    fn selectivity_by(&self, filter: &Filter) -> Selectivity {
         if filter.whole_words().is_some() {
             return Selectivity::Indexed;
         }
@@ -103,9 +103,9 @@ impl<'g> Searched<'g> {
     /// Whether there are several patterns, or none.
     #[inline(always)]
     pub(super) fn are_several(&self) -> bool {
-        match self.heads {
-            HeadsOf::One(_) => false,
-            HeadsOf::Several(_) => true,
+        match self.prefixes {
+            PrefixesOf::One(_) => false,
+            PrefixesOf::Several(_) => true,
         }
     }
 }

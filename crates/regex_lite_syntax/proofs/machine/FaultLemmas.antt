@@ -21,7 +21,7 @@ use Rattle.regex_lite_syntax.proofs.grammar.LongerGapLemmas.{settled, whole_long
 use Rattle.regex_lite_syntax.proofs.machine.LongerRunLemmas.{leads_longer}
 use Rattle.regex_lite_syntax.proofs.machine.OneStepLemmas.{step_over_gap, step_past_gap, leads_step}
 use Rattle.regex_lite_syntax.proofs.machine.ReadOnLemmas.{reads_of, stuck_farthest, unclosed_at}
-use Rattle.regex_lite_syntax.proofs.machine.RunLemmas.{Reaches, frames_are, stuck_refused}
+use Rattle.regex_lite_syntax.proofs.machine.RunLemmas.{ReachesNumber, frames_are, stuck_refused}
 use Rattle.regex_lite_syntax.proofs.machine.RunLemmas.{open_refused, number_refused}
 use Rattle.regex_lite_syntax.proofs.machine.SoundLemmas.{Stands, Keeps, opens, closes, stays}
 use Rattle.regex_lite_syntax.proofs.machine.SoundLemmas.{stands_first, does_keeps, sound}
@@ -45,7 +45,7 @@ pub record Comes (flags : Flags) (pattern : Text) (p : Parser) (rest : Text) (st
 
 -- the same, where no limit on nesting is asked for
 reaches_as : (flags : Flags) (pattern : Text) (p : Parser) (t : Text) (starts : List ℕ)
-    → (c : Comes flags pattern p t starts) → Reaches flags c.deepest pattern p t
+    → (c : Comes flags pattern p t starts) → ReachesNumber flags c.deepest pattern p t
 reaches_as flags pattern p t starts c = record {
   deepest = c.deepest;
   leads = c.leads;
@@ -212,7 +212,7 @@ unfolding state
 stuck_for_good flags pattern p t u starts c whole some stuck more has =
     let verbose = p.here.flags.ignore_whitespace in
     let longer = whole_longer more verbose t u whole some in
-    let comes : Reaches flags c.deepest (pattern ++ more) p (t ++ more) = record {
+    let comes : ReachesNumber flags c.deepest (pattern ++ more) p (t ++ more) = record {
       deepest = c.deepest;
       leads = leads_longer more c.leads
           (settled more verbose t (λ gap. some (gap_to_end verbose t u whole gap)));

@@ -60,7 +60,7 @@ leads_grow {s} (go m st l) =
     grows_on (grows_on (gap_grows st.gap) (change_grows (step_changes st))) (leads_grow l)
 
 -- a pattern that has been read up to this point has at least this many groups, this deep
-pub record Reaches (p : Point) (groups deepest : ℕ) : Type 0 where
+pub record ReachesNumber (p : Point) (groups deepest : ℕ) : Type 0 where
   pub groups_reach : p.groups ≤ groups
   pub deepest_reach : p.deepest ≤ deepest
   pub names_differ : NamesDiffer p.names
@@ -68,7 +68,7 @@ pub record Reaches (p : Point) (groups deepest : ℕ) : Type 0 where
 -- each pattern that has a tree, where a run leads to the state: the tree's own run passes it too
 pub reaches : {flags : Flags} {pattern : Text} {tree : Tree} {groups deepest : ℕ} {s : State}
     → LeadsOn (first_state flags pattern) s → Grammar flags pattern tree groups deepest
-    → Reaches s.point groups deepest
+    → ReachesNumber s.point groups deepest
 reaches {flags} {pattern} {tree} {groups} {deepest} {s} l g =
     let u = complete flags pattern tree groups deepest g in
     let grown = leads_grow (meets l u.leads (λ q st. at_end u.last q u.ends st)) in

@@ -24,8 +24,8 @@ use Rattle.regex_lite_syntax.proofs.machine.GrowthLemmas.{more_parens, step_deep
 use Rattle.regex_lite_syntax.proofs.machine.ChangeLemmas.{head_takes}
 
 -- under these flags the parser has come from the pattern to this text, within the limit
-pub record Reaches (flags : Flags) (nest_limit : ℕ) (pattern : Text) (p : Parser) (rest : Text)
-    : Type 0 where
+pub record ReachesNumber (flags : Flags) (nest_limit : ℕ) (pattern : Text) (p : Parser)
+    (rest : Text) : Type 0 where
   pub deepest : ℕ
   pub leads : LeadsOn (first_state flags pattern) (state p rest deepest)
   pub within : deepest ≤ nest_limit
@@ -40,8 +40,9 @@ frames_are p t d = length-reverse (map frame_of p.below.items) ∙ length-map p.
 
 -- over a gap and what stands past it
 pub reaches_next : (flags : Flags) (nest_limit : ℕ) (pattern : Text) (p q : Parser) (t u v : Text)
-    → Reaches flags nest_limit pattern p t → WholeGap p.here.flags.ignore_whitespace t u
-    → StepsTo p q u v → length q.below.items ≤ nest_limit → Reaches flags nest_limit pattern q v
+    → ReachesNumber flags nest_limit pattern p t → WholeGap p.here.flags.ignore_whitespace t u
+    → StepsTo p q u v → length q.below.items ≤ nest_limit → ReachesNumber flags nest_limit pattern q
+    v
 unfolding state
 reaches_next flags nest_limit pattern p q t u v r whole reads shallow =
     let next = reads r.deepest in
@@ -56,7 +57,7 @@ reaches_next flags nest_limit pattern p q t u v r whole reads shallow =
 
 -- where more groups are open than the limit
 pub open_too_deep : (flags : Flags) (nest_limit : ℕ) (pattern : Text) (p q : Parser) (t u v : Text)
-    → Reaches flags nest_limit pattern p t → WholeGap p.here.flags.ignore_whitespace t u
+    → ReachesNumber flags nest_limit pattern p t → WholeGap p.here.flags.ignore_whitespace t u
     → StepsTo p q u v → nest_limit < length q.below.items → NestingRefused flags nest_limit pattern
 unfolding state
 open_too_deep flags nest_limit pattern p q t u v r whole reads deep =
@@ -72,7 +73,7 @@ open_too_deep flags nest_limit pattern p q t u v r whole reads deep =
 
 -- at the end with no group open
 pub reaches_tree : (flags : Flags) (nest_limit : ℕ) (pattern : Text) (p : Parser) (t : Text)
-    (a : Tree) → (r : Reaches flags nest_limit pattern p t)
+    (a : Tree) → (r : ReachesNumber flags nest_limit pattern p t)
     → Gap p.here.flags.ignore_whitespace t [] → Finishes p a
     → Grammar flags pattern a p.groups r.deepest
 unfolding state
@@ -82,7 +83,7 @@ reaches_tree flags nest_limit pattern p t a r gap finishes =
     (sound flags pattern (state p t r.deepest) r.leads f.0 gap r.differ r.characters)
 
 pub admitted : (flags : Flags) (nest_limit : ℕ) (pattern : Text) (p : Parser) (t : Text) (a : Tree)
-    → Reaches flags nest_limit pattern p t → Gap p.here.flags.ignore_whitespace t []
+    → ReachesNumber flags nest_limit pattern p t → Gap p.here.flags.ignore_whitespace t []
     → p.groups < 2 ^ 32 → Finishes p a → (nest_limit < depth a → ⊥)
     → IsAdmitted flags nest_limit pattern a × IsRegular a
 admitted flags nest_limit pattern p t a r gap few finishes shallow =
@@ -101,7 +102,7 @@ no_levels f xs e =
 
 -- with a group open there is no tree
 pub open_refused : (flags : Flags) (nest_limit : ℕ) (pattern : Text) (p : Parser) (t : Text)
-    → Reaches flags nest_limit pattern p t → Gap p.here.flags.ignore_whitespace t []
+    → ReachesNumber flags nest_limit pattern p t → Gap p.here.flags.ignore_whitespace t []
     → (p.below.items ≡ [] → ⊥) → HasTree flags pattern → ⊥
 unfolding state
 open_refused flags nest_limit pattern p t r gap open_groups =
@@ -121,8 +122,8 @@ tree_refused flags nest_limit pattern a groups deepest g deep = record {
 }
 
 pub end_says : (flags : Flags) (nest_limit : ℕ) (pattern : Text) (p : Parser) (t : Text)
-    (e : Refusal) → Reaches flags nest_limit pattern p t → Gap p.here.flags.ignore_whitespace t []
-    → Refuses e (λ _. p.below.items ≢ []) (FinishesTooDeep p nest_limit) ⊥
+    (e : Refusal) → ReachesNumber flags nest_limit pattern p t → Gap p.here.flags.ignore_whitespace
+    t [] → Refuses e (λ _. p.below.items ≢ []) (FinishesTooDeep p nest_limit) ⊥
     → IsDueToPattern flags nest_limit pattern (kind_of e)
 end_says flags nest_limit pattern p t (syntax_error fault) r gap d =
     open_refused flags nest_limit pattern p t r gap d
@@ -134,7 +135,7 @@ end_says flags nest_limit pattern p t _ r gap d = absurd d
 
 -- before the end with nothing to be read, there is no tree either
 pub stuck_refused : (flags : Flags) (nest_limit : ℕ) (pattern : Text) (p : Parser) (t u : Text)
-    → Reaches flags nest_limit pattern p t → WholeGap p.here.flags.ignore_whitespace t u
+    → ReachesNumber flags nest_limit pattern p t → WholeGap p.here.flags.ignore_whitespace t u
     → (u ≡ [] → ⊥) → (CanRead p u → ⊥) → HasTree flags pattern → ⊥
 unfolding state
 stuck_refused flags nest_limit pattern p t u r whole more stuck has =
@@ -148,7 +149,7 @@ stuck_refused flags nest_limit pattern p t u r whole more stuck has =
 
 -- where a further group can't be numbered
 pub number_refused : (flags : Flags) (nest_limit : ℕ) (pattern : Text) (p : Parser) (t u : Text)
-    → Reaches flags nest_limit pattern p t → WholeGap p.here.flags.ignore_whitespace t u
+    → ReachesNumber flags nest_limit pattern p t → WholeGap p.here.flags.ignore_whitespace t u
     → PassesGroups (p.groups + 1) → BeginsCapture p u → GroupsRefused flags pattern
 unfolding state
 number_refused flags nest_limit pattern p t u r whole many capture =
@@ -164,7 +165,7 @@ number_refused flags nest_limit pattern p t u r whole many capture =
     }
 
 pub step_says : (flags : Flags) (nest_limit : ℕ) (pattern : Text) (p : Parser) (t u : Text)
-    (e : Refusal) → Reaches flags nest_limit pattern p t
+    (e : Refusal) → ReachesNumber flags nest_limit pattern p t
     → WholeGap p.here.flags.ignore_whitespace t u → (u ≡ [] → ⊥)
     → Refuses e (λ fault. NoReading fault (CanRead p) u) ⊥ (BeginsTooMany p u)
     → IsDueToPattern flags nest_limit pattern (kind_of e)

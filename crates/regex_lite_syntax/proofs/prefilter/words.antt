@@ -5,7 +5,7 @@ pub mod StandLemmas
 pub mod NextLemmas
 pub mod BlockLemmas
 pub mod PairLemmas
-pub mod LeapLemmas
+pub mod ShiftLemmas
 pub mod SharedLetterLemmas
 pub mod LinkLemmas
 pub mod MarkLemmas

@@ -9,7 +9,7 @@ abbrev pub number_on : (number : ℕ) → (digits : Text) → ℕ
 number_on number digits = fold (λ n d. n * 16 + digit_value d) number digits
 
 -- with these further digits the number is that of a character from `least` on
-pub record Reaches (number least : ℕ) (digits : Text) : Type 0 where
+pub record ReachesNumber (number least : ℕ) (digits : Text) : Type 0 where
   pub are_digits : IsTrue (list_all is_hex_digit digits)
   pub scalar : IsTrue (is_character (number_on number digits))
   pub far : least ≤ number_on number digits

@@ -2,13 +2,13 @@
 use Rattle.std.specs.Prelude.{◌≡◌, ◌+◌, ◌<◌, ℕ, Bool, true, false, ◌&&◌}
 use Rattle.std.specs.Prelude.{nat_eq, nat_le, List, length, slice_index}
 use Rattle.std.specs.List.{list_any}
-use Rattle.regex_lite_syntax.specs.declared.prefilter.heads.Heads.{Heads}
+use Rattle.regex_lite_syntax.specs.declared.prefilter.prefixes.PrefixSets.{PrefixSets}
 use Rattle.regex_lite_syntax.specs.declared.prefilter.Prefilter.{Prefilter}
 use Rattle.regex_lite_syntax.specs.declared.prefilter.Prefilter.TheVariants.{Pair, Four, Eight}
 use Rattle.regex_lite_syntax.specs.declared.prefilter.Prefilter.TheVariants.{Range}
-use Rattle.regex_lite_syntax.specs.declared.prefilter.starts.Starts.{Starts}
-use Rattle.regex_lite_syntax.specs.Prefilter.Heads.{IsPassed}
-use Rattle.regex_lite_syntax.specs.Prefilter.Starts.{stops_at}
+use Rattle.regex_lite_syntax.specs.declared.prefilter.first_set.FirstSet.{FirstSet}
+use Rattle.regex_lite_syntax.specs.Prefilter.PrefixSets.{IsPassed}
+use Rattle.regex_lite_syntax.specs.Prefilter.FirstSet.{stops_at}
 
 -- the byte is one of these
 abbrev pub is_among : List ℕ → ℕ → Bool
@@ -26,13 +26,13 @@ abbrev pub StandsBelow : List ℕ → (len byte : ℕ) → Type 0
 StandsBelow bytes len byte = (i : ℕ) × (i < len) × (slice_index bytes i ≡ byte)
 
 -- the bytes with which a match can begin are all ASCII, and among these
-pub record AreAllBytes (starts : Starts) (bytes : List ℕ) : Type 0 where
+pub record AreAllBytes (starts : FirstSet) (bytes : List ℕ) : Type 0 where
   pub ascii : (byte : ℕ) → stops_at starts byte ≡ true → byte < 128
   pub among : (byte : ℕ) → stops_at starts byte ≡ true → is_among bytes byte ≡ true
 
 -- the heads rule out each byte that doesn't suit, unless it is the last one
-abbrev pub IsPrefilterOf : Heads → Prefilter → Type 0
-IsPrefilterOf heads filter =
+abbrev pub IsPrefilterOf : PrefixSets → Prefilter → Type 0
+IsPrefilterOf prefixes filter =
     (bytes : List ℕ) (k : ℕ) → k + 1 < length bytes
     → suits filter (slice_index bytes k) (slice_index bytes (k + 1)) ≡ false
-    → IsPassed heads bytes k
+    → IsPassed prefixes bytes k

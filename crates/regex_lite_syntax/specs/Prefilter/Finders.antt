@@ -7,12 +7,12 @@ use Rattle.std.specs.Int.{w64, trailing_zeros}
 use Rattle.regex_lite_syntax.specs.declared.prefilter.words.WordSearch.{WordSearch}
 use Rattle.regex_lite_syntax.specs.declared.prefilter.words.WordSearch.TheVariants as finder
 use Rattle.regex_lite_syntax.specs.declared.prefilter.words.letter.Letter.{Letter}
-use Rattle.regex_lite_syntax.specs.declared.prefilter.words.leaps.Leaps.{Leaps}
-use Rattle.regex_lite_syntax.specs.declared.prefilter.words.leaps.shared_letter.SharedLetter.{
+use Rattle.regex_lite_syntax.specs.declared.prefilter.words.shifts.Shifts.{Shifts}
+use Rattle.regex_lite_syntax.specs.declared.prefilter.words.shifts.shared_letter.SharedLetter.{
   SharedLetter,
 }
 use Rattle.regex_lite_syntax.specs.declared.prefilter.words.pair.Pair.{Pair}
-use Rattle.regex_lite_syntax.specs.Prefilter.Leaps.{AreLeaps, AreLinks}
+use Rattle.regex_lite_syntax.specs.Prefilter.Shifts.{AreLinks, AreShifts}
 use Rattle.regex_lite_syntax.specs.Prefilter.Words.{StartsWith, word_at}
 
 -- the two letters are letters of the one word
@@ -34,15 +34,15 @@ IsSharedBy words shared =
 
 -- no word is shorter than the reach, no leap passes one, each is reached by its bucket,
 -- and each has the letter that they share
-pub record AreLeapsOf (words : List (List Letter)) (leaps : Leaps) : Type 0 where
-  pub two : 2 ≤ leaps.reach
-  pub long : (number : ℕ) → number < length words → leaps.reach ≤ length (word_at words number)
-  pub none_passed : AreLeaps words leaps.reach leaps.leaps.items
-  pub hashed : leaps.hashed ≤ leaps.reach
-  pub links : AreLinks words leaps.hashed leaps.first.items leaps.next.items
-  pub shared : IfSome leaps.shared (IsSharedBy words)
+pub record AreShiftsOf (words : List (List Letter)) (shifts : Shifts) : Type 0 where
+  pub two : 2 ≤ shifts.reach
+  pub long : (number : ℕ) → number < length words → shifts.reach ≤ length (word_at words number)
+  pub none_passed : AreShifts words shifts.reach shifts.shifts.items
+  pub hashed : shifts.hashed ≤ shifts.reach
+  pub links : AreLinks words shifts.hashed shifts.first.items shifts.next.items
+  pub shared : IfSome shifts.shared (IsSharedBy words)
 
 -- the words are found so
 abbrev pub Finds : List (List Letter) → WordSearch → Type 0
 Finds words (finder.Pair pair) = IsPairOf words pair
-Finds words (finder.Leaps leaps) = AreLeapsOf words leaps
+Finds words (finder.Shifts shifts) = AreShiftsOf words shifts

@@ -4,17 +4,17 @@ use Rattle.std.specs.Prelude.{encode_utf8_all, slice_index, slice_index_or}
 use Rattle.regex_lite_syntax.specs.Text.{Text}
 use Rattle.regex_lite_syntax.specs.Tree.{Tree}
 use Rattle.regex_lite_syntax.specs.Tree.Matches.{Matches}
-use Rattle.regex_lite_syntax.specs.declared.prefilter.starts.Starts.{Starts}
+use Rattle.regex_lite_syntax.specs.declared.prefilter.first_set.FirstSet.{FirstSet}
 use Rattle.regex_lite_syntax.specs.declared.prefilter.words.letter.Letter.{Letter}
 use Rattle.regex_lite_syntax.specs.declared.prefilter.words.needed.Reach.{Reach}
 use Rattle.regex_lite_syntax.specs.declared.prefilter.words.pair.Pair.{Pair}
-use Rattle.regex_lite_syntax.specs.Prefilter.Starts.{begins_with}
+use Rattle.regex_lite_syntax.specs.Prefilter.FirstSet.{begins_with}
 use Rattle.regex_lite_syntax.specs.Prefilter.Words.{AnyStandsAt, NoneStands, word_at}
 
 -- words, and the characters that may stand between a match's start and one of them
 pub record NeededWords : Type 0 where
   pub words : List (List Letter)
-  pub lead : Starts
+  pub lead : FirstSet
 
 -- one of the words stands there, and from the offset on only such characters stand before it
 abbrev pub IsReached : NeededWords → (bytes : List ℕ) → (from at : ℕ) → Type 0

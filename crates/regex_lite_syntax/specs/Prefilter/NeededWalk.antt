@@ -5,16 +5,16 @@ use Rattle.std.specs.Prelude.{length, slice_index, true}
 use Rattle.regex_lite_syntax.specs.Text.{Text}
 use Rattle.regex_lite_syntax.specs.Tree.{Tree}
 use Rattle.regex_lite_syntax.specs.Tree.Matches.{Matches}
-use Rattle.regex_lite_syntax.specs.declared.prefilter.starts.Starts.{Starts}
+use Rattle.regex_lite_syntax.specs.declared.prefilter.first_set.FirstSet.{FirstSet}
 use Rattle.regex_lite_syntax.specs.declared.prefilter.words.letter.Letter.{Letter}
 use Rattle.regex_lite_syntax.specs.declared.prefilter.words.needed_walk.NeededWalk.{NeededWalk}
 use Rattle.regex_lite_syntax.specs.Prefilter.Needed.{NeededWords, Reaches}
-use Rattle.regex_lite_syntax.specs.Prefilter.Starts.{AreBetween, begins_with, IsWider}
-use Rattle.regex_lite_syntax.specs.Prefilter.Starts.{ReadsAmong}
+use Rattle.regex_lite_syntax.specs.Prefilter.FirstSet.{AreBetween, begins_with, IsWider}
+use Rattle.regex_lite_syntax.specs.Prefilter.FirstSet.{ReadsAmong}
 use Rattle.regex_lite_syntax.specs.Prefilter.Words.{IsLetter, StartsWith}
 
 -- these words, with these characters before them
-abbrev pub as_needed : (words : List (List Letter)) → (lead : Starts) → NeededWords
+abbrev pub as_needed : (words : List (List Letter)) → (lead : FirstSet) → NeededWords
 as_needed words lead = record {
   words = words;
   lead = lead;
@@ -26,7 +26,7 @@ ReachesToo needed others = (bytes : List ℕ) (from : ℕ) → Reaches needed by
     → Reaches others bytes from
 
 -- the first bytes, as many as that, are of these characters
-abbrev pub AreAmong : Starts → (bytes : List ℕ) → (count : ℕ) → Type 0
+abbrev pub AreAmong : FirstSet → (bytes : List ℕ) → (count : ℕ) → Type 0
 AreAmong starts bytes count =
     (k : ℕ) → k < count → begins_with starts (slice_index bytes k) ≡ true
 

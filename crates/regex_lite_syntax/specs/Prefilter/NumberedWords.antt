@@ -44,13 +44,13 @@ AreWordsOfTrees trees numbered =
 
 -- The number of a pattern, and where the first of the words that stand at an offset starts and
 -- ends: the word is the pattern's. A character begins there.
-pub record IsSpanOfPattern (numbered : NumberedWords) (bytes : List ℕ) (told : ℕ × (ℕ × ℕ))
+pub record IsSpanOfPattern (numbered : NumberedWords) (bytes : List ℕ) (reported : ℕ × (ℕ × ℕ))
     : Type 0 where
   pub number : ℕ
-  pub stands : IsFirstAt numbered.words bytes told.1.0 number
-  pub boundary : IsCharBoundary bytes told.1.0
-  pub end : told.1.1 ≡ told.1.0 + length (word_at numbered.words number)
-  pub owner : told.0 ≡ slice_index numbered.owners number
+  pub stands : IsFirstAt numbered.words bytes reported.1.0 number
+  pub boundary : IsCharBoundary bytes reported.1.0
+  pub end : reported.1.1 ≡ reported.1.0 + length (word_at numbered.words number)
+  pub owner : reported.0 ≡ slice_index numbered.owners number
 
 -- the first offset from this one on at which a word stands, and the pattern and the end of the
 -- first word that stands there
@@ -58,8 +58,8 @@ abbrev pub IsNextOfPatterns : NumberedWords → (bytes : List ℕ) → (from : �
     → Option (ℕ × (ℕ × ℕ)) → Type 0
 IsNextOfPatterns numbered bytes from next = MatchOption next
     ((at : ℕ) → from ≤ at → ¬ AnyStandsAt numbered.words bytes at)
-    (λ told. (from ≤ told.1.0) × NoneStands numbered.words bytes from told.1.0
-    × IsSpanOfPattern numbered bytes told)
+    (λ reported. (from ≤ reported.1.0) × NoneStands numbered.words bytes from reported.1.0
+    × IsSpanOfPattern numbered bytes reported)
 
 -- each word has its pattern, one of so many
 pub record HavePatterns (numbered : NumberedWords) (patterns : ℕ) : Type 0 where
@@ -78,8 +78,8 @@ PatternStandsFrom numbered bytes from number =
     (at : ℕ) × (from ≤ at) × IsCharBoundary bytes at × PatternStandsAt numbered bytes number at
 
 -- for each pattern, in the order of their numbers, whether one does
-abbrev pub TellsWhichStand : NumberedWords → (bytes : List ℕ) → (from : ℕ) → (told : List Bool)
+abbrev pub TellsWhichStand : NumberedWords → (bytes : List ℕ) → (from : ℕ) → (reported : List Bool)
     → Type 0
-TellsWhichStand numbered bytes from told =
-    (number : ℕ) → IsTrue (slice_index_or told number false)
+TellsWhichStand numbered bytes from reported =
+    (number : ℕ) → IsTrue (slice_index_or reported number false)
     ↔ PatternStandsFrom numbered bytes from number

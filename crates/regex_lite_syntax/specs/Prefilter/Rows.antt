@@ -6,10 +6,10 @@ use Rattle.std.specs.Prelude.{Option, Some, None}
 use Rattle.std.specs.Int.{bit_at}
 use Rattle.std.specs.List.{range_with_len}
 use Rattle.regex_lite_syntax.specs.AsciiMaps.{bit_of_words}
-use Rattle.regex_lite_syntax.specs.declared.prefilter.heads.Heads.{Heads}
-use Rattle.regex_lite_syntax.specs.declared.prefilter.list_heads.rows.BitRows.{BitRows}
-use Rattle.regex_lite_syntax.specs.declared.prefilter.starts.Starts.{Starts}
-use Rattle.regex_lite_syntax.specs.Prefilter.Starts.{begins_with}
+use Rattle.regex_lite_syntax.specs.declared.prefilter.prefixes.PrefixSets.{PrefixSets}
+use Rattle.regex_lite_syntax.specs.declared.prefilter.prefix_index.rows.BitRows.{BitRows}
+use Rattle.regex_lite_syntax.specs.declared.prefilter.first_set.FirstSet.{FirstSet}
+use Rattle.regex_lite_syntax.specs.Prefilter.FirstSet.{begins_with}
 
 -- There are 129 rows for the first character, as many for the second, and one for the start of the
 -- haystack. All characters that are not ASCII have one row together
@@ -38,18 +38,19 @@ abbrev pub has : BitRows → (row number : ℕ) → Bool
 has rows row number = bit_of_words rows.words.items (64 * (row * rows.width) + number) == 1
 
 -- the second character may be this one. If the second characters aren't known, it may be any
-abbrev pub goes_on_with : Option Starts → ℕ → Bool
+abbrev pub goes_on_with : Option FirstSet → ℕ → Bool
 goes_on_with None c = true
 goes_on_with (Some second) c = begins_with second c
 
 -- a pattern that begins like this belongs in the row
-abbrev pub belongs : Heads → (row : ℕ) → Bool
-belongs heads row =
-    if nat_lt row 129 then begins_with heads.first row
-    else (if nat_lt row 258 then goes_on_with heads.second (row - 129) else heads.first.at_start)
+abbrev pub belongs : PrefixSets → (row : ℕ) → Bool
+belongs prefixes row =
+    if nat_lt row 129 then begins_with prefixes.first row
+    else (if nat_lt row 258 then goes_on_with prefixes.second (row - 129) else
+    prefixes.first.at_start)
 
 -- the one of these that has this number belongs in the row
-abbrev pub one_belongs : Option Heads → (row : ℕ) → Bool
+abbrev pub one_belongs : Option PrefixSets → (row : ℕ) → Bool
 one_belongs None row = false
 one_belongs (Some part) row = belongs part row
 

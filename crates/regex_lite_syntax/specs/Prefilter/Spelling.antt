@@ -27,6 +27,6 @@ AddsRow parts = AddsLetters (AreSpelled parts)
 
 -- each match of the tree begins with one of the words and, if that is said, the tree is one of them
 -- and nothing else
-abbrev pub AreToldWords : Tree → (words : List (List Letter)) → (are_all : Bool) → Type 0
-AreToldWords tree words are_all =
+abbrev pub AreReportedWords : Tree → (words : List (List Letter)) → (are_all : Bool) → Type 0
+AreReportedWords tree words are_all =
     AreWordsOfTree tree words × (IsTrue are_all → IsItsWords tree words)

@@ -3,9 +3,9 @@ use Rattle.std.specs.Prelude.{◌≡◌, ◌⊎◌, ℕ, Bool, List, Option, Som
 use Rattle.std.specs.Prelude.{drop, encode_utf8_all, length, slice_get}
 use Rattle.regex_lite_syntax.specs.Text.{Text}
 use Rattle.regex_lite_syntax.specs.Tree.{Tree}
-use Rattle.regex_lite_syntax.specs.declared.prefilter.heads.Heads.{Heads}
+use Rattle.regex_lite_syntax.specs.declared.prefilter.prefixes.PrefixSets.{PrefixSets}
 use Rattle.regex_lite_syntax.specs.declared.prefilter.words.letter.Letter.{Letter}
-use Rattle.regex_lite_syntax.specs.Prefilter.Heads.{AreHeadsOfTree, NeverBegins}
+use Rattle.regex_lite_syntax.specs.Prefilter.PrefixSets.{ArePrefixSetsOfTree, NeverBegins}
 use Rattle.regex_lite_syntax.specs.Prefilter.Needed.{IsNeededBy, IsOutOfReach, NeededWords}
 use Rattle.regex_lite_syntax.specs.Prefilter.WholeWords.{IsItsWords}
 use Rattle.regex_lite_syntax.specs.Prefilter.Words.{AnyStandsAt, AreWordsOfTree}
@@ -14,14 +14,14 @@ use Rattle.regex_lite_syntax.specs.Prefilter.Words.{AnyStandsAt, AreWordsOfTree}
 -- are such words, whether it is nothing but one of them, and a word that stands in it with what may
 -- stand before that, if one is known
 pub record StartFacts : Type 0 where
-  pub heads : Heads
+  pub prefixes : PrefixSets
   pub words : Option (List (List Letter))
   pub are_all : Bool
   pub needed : Option NeededWords
 
 -- this is so of the matches of the tree
 pub record AreFactsOfTree (tree : Tree) (facts : StartFacts) : Type 0 where
-  pub heads : AreHeadsOfTree tree facts.heads
+  pub prefixes : ArePrefixSetsOfTree tree facts.prefixes
   pub words : IfSome facts.words (AreWordsOfTree tree)
   pub all : IsTrue facts.are_all → IfSome facts.words (IsItsWords tree)
   pub needed : IfSome facts.needed (IsNeededBy tree)
@@ -34,7 +34,7 @@ NoneStandsIn words haystack i = ¬ AnyStandsAt words (encode_utf8_all (drop i ha
 -- there, or since what each match needs isn't reached from there
 abbrev pub NeverStarts : StartFacts → Text → ℕ → Type 0
 NeverStarts facts haystack i =
-    NeverBegins facts.heads haystack i
+    NeverBegins facts.prefixes haystack i
     ⊎ MatchOption facts.words ⊥ (λ words. NoneStandsIn words haystack i)
     ⊎ MatchOption facts.needed ⊥ (λ needed. IsOutOfReach needed haystack i)
 

@@ -196,7 +196,7 @@ fn least_refused(
 /// Whether no accepted pattern begins with these characters.
 fn begins_none(alloc: Global, flags: Flags, chars: &[char]) -> Result<bool, Error>
     requires { AreCharacters chars.now }
-    ensures told { IfOk result (λ is. MatchBool is
+    ensures reported { IfOk result (λ is. MatchBool is
         (BeginsNone flags chars.now) (BeginsSome flags chars.now)) }
     ensures refused { IfErr result (λ error. IsRefusedUnread chars.now (kind_of error)) }
 {

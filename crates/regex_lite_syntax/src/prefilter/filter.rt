@@ -4,12 +4,12 @@ ghost use Rattle.regex_lite_syntax.specs.Tree.Views.{tree_of};
 ghost use Rattle.regex_lite_syntax.specs.Prefilter.Bytes.{IsPrefilterOf};
 ghost use Rattle.regex_lite_syntax.specs.Prefilter.Needed.{IsNeededBy};
 ghost use Rattle.regex_lite_syntax.specs.Prefilter.StartFacts.{AreFactsOfTree};
-ghost use Rattle.regex_lite_syntax.specs.Prefilter.Spelling.{AreToldWords};
+ghost use Rattle.regex_lite_syntax.specs.Prefilter.Spelling.{AreReportedWords};
 
 use crate::hir::Hir;
 use crate::prefilter::Prefilter;
-use crate::prefilter::heads::Heads;
-use crate::prefilter::starts::Starts;
+use crate::prefilter::first_set::FirstSet;
+use crate::prefilter::prefixes::PrefixSets;
 use crate::prefilter::words::{Needed, Words, may_have_words};
 use std::alloc::Global;
 use std::marker::Model;
@@ -18,7 +18,7 @@ use std::marker::Model;
 /// them, if there is one.
 #[derive(Drop)]
 pub struct Filter {
-    heads: Heads,
+    prefixes: PrefixSets,
     /// What rules out whole blocks of bytes; `None` if too many bytes can begin a match, or if
     /// words do.
     prefilter: Option<Prefilter>,
@@ -38,13 +38,13 @@ impl Model for Filter {
     ghost Value = { StartFacts };
 
     ghost view = { λ filter. record {
-      heads = filter.heads;
+      prefixes = filter.prefixes;
       words = option_map (λ words. words.value) filter.words;
       are_all = filter.are_all;
       needed = option_map (λ needed. needed.value) filter.needed;
     } };
 
-    ghost invariant = { λ filter. IfSome filter.prefilter (IsPrefilterOf filter.heads) };
+    ghost invariant = { λ filter. IfSome filter.prefilter (IsPrefilterOf filter.prefixes) };
 }
 
 impl Filter {
@@ -52,13 +52,13 @@ impl Filter {
     pub fn of(alloc: Global, hir: &Hir) -> Filter
         ensures { AreFactsOfTree (tree_of hir.now) result }
     {
-        let first = Starts::of(hir);
+        let first = FirstSet::of(hir);
         // Where matches begin at the haystack's start, words would be looked for up to its end.
         if first.any && !first.at_start && may_have_words(hir) {
             if let Some((words, are_all)) = words_of(alloc, hir) {
                 let needed = needed_past(alloc, hir, &words, are_all);
                 return Filter {
-                    heads: Heads {
+                    prefixes: PrefixSets {
                         first,
                         second: None,
                     },
@@ -69,10 +69,10 @@ impl Filter {
                 };
             }
         }
-        let heads = Heads::with_first(first, hir);
-        let prefilter = Prefilter::of(&heads);
+        let prefixes = PrefixSets::with_first(first, hir);
+        let prefilter = Prefilter::of(&prefixes);
         Filter {
-            heads,
+            prefixes,
             prefilter,
             words: None,
             are_all: false,
@@ -81,16 +81,16 @@ impl Filter {
     }
 
     /// The characters that can come first and second.
-    pub fn heads(&self) -> &Heads
-        ensures { result.now ≡ self.now.heads }
+    pub fn prefixes(&self) -> &PrefixSets
+        ensures { result.now ≡ self.now.prefixes }
     {
-        &self.heads
+        &self.prefixes
     }
 
     /// What rules out whole blocks of bytes; `None` if too many bytes can begin a match, or if
     /// words do.
     pub fn prefilter(&self) -> &Option<Prefilter>
-        ensures { IfSome result.now (IsPrefilterOf self.now.heads) }
+        ensures { IfSome result.now (IsPrefilterOf self.now.prefixes) }
     {
         &self.prefilter
     }
@@ -156,7 +156,7 @@ fn needed_by(alloc: Global, hir: &Hir, begun: usize) -> Option<Box<Needed>>
 #[inline(never)]
 fn words_of(alloc: Global, hir: &Hir) -> Option<(Box<Words>, bool)>
     ensures { IfSome result
-        (λ told. AreToldWords (tree_of hir.now) told.0.value told.1) }
+        (λ reported. AreReportedWords (tree_of hir.now) reported.0.value reported.1) }
 {
     let Ok(Some((words, are_all))) = Words::of(alloc, hir) else {
         return None;

@@ -7,7 +7,7 @@ ghost use Rattle.std.specs.Prelude.{◌≡◌, ◌↔◌, ◌<◌, ◌≤◌, �
 ghost use Rattle.std.specs.Prelude.{IsCharBoundary, IsTrue, false, length};
 ghost use Rattle.regex_lite_syntax.specs.Tree.Views.{tree_of};
 ghost use Rattle.regex_lite_syntax.specs.Prefilter.NumberedWords.{HavePatterns, TellsWhichStand};
-ghost use Rattle.regex_lite_syntax.specs.Prefilter.Spelling.{AreToldWords};
+ghost use Rattle.regex_lite_syntax.specs.Prefilter.Spelling.{AreReportedWords};
 ghost use Rattle.regex_lite_syntax.specs.Prefilter.WholeWords.{IsNextSpan};
 ghost use Rattle.regex_lite_syntax.specs.Prefilter.WordLists.{all_words};
 ghost use Rattle.regex_lite_syntax.specs.Prefilter.Words.{AnyStandsAt, AreLong, AreSuited};
@@ -19,13 +19,13 @@ mod few_words;
 mod found_words;
 mod frequency;
 mod gain;
-mod leaps;
 pub mod letter;
 pub mod list_words;
 mod needed;
 mod needed_walk;
 mod numbered;
 mod pair;
+mod shifts;
 mod short_word;
 mod spelling;
 mod standing;
@@ -33,11 +33,11 @@ mod walk;
 mod word_list;
 
 use crate::hir::Hir;
-use gain::{leaps_pay, may_pay};
-use leaps::{Leaps, shortest};
+use gain::{may_pay, shifts_pay};
 pub use needed::{Needed, Reach};
 use numbered::Numbered;
 use pair::Pair;
+use shifts::{Shifts, shortest};
 use spelling::{may_begin_word, read_words};
 use std::alloc::{AllocError, Global};
 use std::marker::Model;
@@ -64,7 +64,7 @@ enum WordSearch {
     /// One word, by two of its letters.
     Pair(Pair),
     /// Several, by leaps.
-    Leaps(Leaps),
+    Shifts(Shifts),
 }
 
 impl Model for Words {
@@ -90,8 +90,8 @@ impl Words {
     ///
     /// If memory runs out.
     pub(crate) fn of(alloc: Global, hir: &Hir) -> Result<Option<(Words, bool)>, AllocError>
-        ensures { IfOk result (λ told. IfSome told
-            (λ told. AreToldWords (tree_of hir.now) told.0 told.1)) }
+        ensures { IfOk result (λ reported. IfSome reported
+            (λ reported. AreReportedWords (tree_of hir.now) reported.0 reported.1)) }
     {
         let mut list = WordList::new(alloc);
         if read_words(&mut list, hir)? {
@@ -116,7 +116,7 @@ impl Words {
     ///
     /// If memory runs out.
     fn of_list(alloc: Global, list: WordList) -> Result<Option<Words>, AllocError>
-        ensures { IfOk result (λ told. IfSome told (λ words. words ≡ all_words list)) }
+        ensures { IfOk result (λ reported. IfSome reported (λ words. words ≡ all_words list)) }
     {
         if list.len() > MOST || !are_suited(&list) {
             return Ok(None);
@@ -125,10 +125,10 @@ impl Words {
             let finder = WordSearch::Pair(Pair::of(list.word(0)));
             return Ok(Some(Words { list, finder }));
         }
-        if !are_long(&list) || !leaps_pay(&list, shortest(&list)) {
+        if !are_long(&list) || !shifts_pay(&list, shortest(&list)) {
             return Ok(None);
         }
-        let finder = WordSearch::Leaps(Leaps::of(alloc, &list)?);
+        let finder = WordSearch::Shifts(Shifts::of(alloc, &list)?);
         Ok(Some(Words { list, finder }))
     }
 
@@ -147,7 +147,7 @@ impl Words {
                 let at = pair.find(self.list.word(0), bytes, from)?;
                 Some((at, 0))
             }
-            WordSearch::Leaps(leaps) => leaps.find(&self.list, bytes, from),
+            WordSearch::Shifts(shifts) => shifts.find(&self.list, bytes, from),
         }
     }
 
@@ -162,7 +162,7 @@ impl Words {
     {
         match &self.finder {
             WordSearch::Pair(_) => true,
-            WordSearch::Leaps(leaps) => leaps.stands_at(&self.list, bytes, at),
+            WordSearch::Shifts(shifts) => shifts.stands_at(&self.list, bytes, at),
         }
     }
 
@@ -170,7 +170,7 @@ impl Words {
     pub(super) fn reach(&self) -> usize {
         match &self.finder {
             WordSearch::Pair(_) => self.list.word(0).len(),
-            WordSearch::Leaps(leaps) => leaps.reach(),
+            WordSearch::Shifts(shifts) => shifts.reach(),
         }
     }
 
@@ -210,25 +210,25 @@ impl Words {
     ///
     /// Conditions: each word has an owner, of which there is room for the answer, and the offset
     /// is at most the length.
-    fn which_stand(&self, owners: &[u32], bytes: &[u8], from: usize, told: &mut [bool])
+    fn which_stand(&self, owners: &[u32], bytes: &[u8], from: usize, reported: &mut [bool])
         requires from { from ≤ length bytes.now }
         requires patterns { HavePatterns (record { words = self.now; owners = owners.now })
-            (length told.old) }
-        ensures told { TellsWhichStand (record { words = self.now; owners = owners.now })
-            bytes.now from told.new }
-        ensures length { length told.new ≡ length told.old }
+            (length reported.old) }
+        ensures reported { TellsWhichStand (record { words = self.now; owners = owners.now })
+            bytes.now from reported.new }
+        ensures length { length reported.new ≡ length reported.old }
     {
-        told.fill(false);
+        reported.fill(false);
         let numbered = Numbered {
             words: &self.list,
             owners,
         };
         let left = match &self.finder {
             WordSearch::Pair(_) => Some(from),
-            WordSearch::Leaps(leaps) => leaps.mark(&numbered, bytes, from, told),
+            WordSearch::Shifts(shifts) => shifts.mark(&numbered, bytes, from, reported),
         };
         if let Some(left) = left {
-            numbered.mark_each(bytes, left, told);
+            numbered.mark_each(bytes, left, reported);
         }
     }
 

@@ -55,19 +55,19 @@ begun : (text : List ℕ) (before now : Option (List ℕ)) (all : Bool)
     → IsWritten before now text all
     → (written : List ℕ) × Begins written text × Appends before now written
 begun text before now true w =
-    (w.written, ([], w.told ∙ sym (append-nil w.written)), w.appended)
-begun text before now false w = (w.written, w.told, w.appended)
+    (w.written, ([], w.reported ∙ sym (append-nil w.written)), w.appended)
+begun text before now false w = (w.written, w.reported, w.appended)
 
 -- a fault that is so was reported
 pub reported : (fault : Failure) (args : List (Bor (List ℕ))) (input before now : Option (List ℕ))
-    (told tells : Option (List ℕ)) (all : Bool) → Ends fault args input before now
+    (received receives : Option (List ℕ)) (all : Bool) → Ends fault args input before now
     → ((named : Failure) × IsReportedAs fault named
-    × IsWritten told tells (line_of_fault named) all)
-    → (named : Failure) × Ends named args input before now × IsReported named told tells
-reported fault args input before now told tells all so report = (
+    × IsWritten received receives (line_of_fault named) all)
+    → (named : Failure) × Ends named args input before now × IsReported named received receives
+reported fault args input before now received receives all so report = (
   report.0,
   so_as_reported fault report.0 args input before now report.1 so,
-  begun (line_of_fault report.0) told tells all report.2,
+  begun (line_of_fault report.0) received receives all report.2,
 )
 
 -- the fault of a refused result
@@ -76,12 +76,12 @@ fault_of (Ok value) = Usage
 fault_of (Err fault) = fault
 
 -- where no command is asked for the line on the usage was reported
-pub usage_reported : (fault : Failure) (told tells : Option (List ℕ)) (all : Bool) → fault ≡ Usage
-    → ((named : Failure) × IsReportedAs fault named
-    × IsWritten told tells (line_of_fault named) all)
-    → IsReported Usage told tells
-usage_reported fault told tells all is report =
+pub usage_reported : (fault : Failure) (received receives : Option (List ℕ)) (all : Bool) → fault
+    ≡ Usage → ((named : Failure) × IsReportedAs fault named
+    × IsWritten received receives (line_of_fault named) all)
+    → IsReported Usage received receives
+usage_reported fault received receives all is report =
     let named_is : report.0 ≡ Usage =
     subst (λ f. IsReportedAs f report.0) is report.1 in
-    begun (line_of_fault Usage) told tells all
-    (subst (λ f. IsWritten told tells (line_of_fault f) all) named_is report.2)
+    begun (line_of_fault Usage) received receives all
+    (subst (λ f. IsWritten received receives (line_of_fault f) all) named_is report.2)

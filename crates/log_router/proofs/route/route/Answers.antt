@@ -16,7 +16,7 @@ loop-rule-preserved c =
     let there : slice_get rules c.loop-rule.rule ≡ Some own =
     slice_get_read rules (length rules) c.loop-rule.rule own refl c.loop-rule-test.true
     c.index-rules-rule.is in
-    let told : TellsGroups own line 0 None =
+    let reported : TellsGroups own line 0 None =
     subst (TellsGroups own line 0) c.in_default.is c.in_ok-caps.ensures.found in
     let before = below_more (λ k. (other : Expression) → slice_get rules k ≡ Some other
     → ¬ (MatchesIn other line)) c.loop-rule.rule
@@ -25,7 +25,7 @@ loop-rule-preserved c =
     let same : own ≡ other = cc in
     matches_nowhere c.searches_find_the_first_match.ensures.first other line c.utf8.line
     (inr (IsCharBoundary-start line c.utf8.line))
-    (subst (λ r. TellsGroups r line 0 None) same told)) in
+    (subst (λ r. TellsGroups r line 0 None) same reported)) in
     λ lower other less is matches. before lower less other is matches
 
 pub returns-clause-routed : goal.returns-clause-routed

@@ -116,8 +116,8 @@ impl RegexList {
         ensures refused { IfErr result (λ error. error ≡ out_of_memory) }
     {
         let graph = &self.compiled.graph;
-        let (told, _) = graph.search_anchored::<WHOLE>(self.alloc, haystack, start, 0)?;
-        let Some((number, outcome)) = told else {
+        let (reported, _) = graph.search_anchored::<WHOLE>(self.alloc, haystack, start, 0)?;
+        let Some((number, outcome)) = reported else {
             return Ok(None);
         };
         let found = Match::new(haystack, outcome.start, outcome.end);
@@ -142,8 +142,8 @@ impl RegexList {
         let count = self.kept_slots();
         let whole = whole_slots(self.alloc, count)?;
         let graph = &self.compiled.graph;
-        let (told, _) = graph.search_anchored::<WHOLE>(self.alloc, haystack, start, count)?;
-        let Some(found) = told else {
+        let (reported, _) = graph.search_anchored::<WHOLE>(self.alloc, haystack, start, count)?;
+        let Some(found) = reported else {
             return Ok(None);
         };
         let caps = self.captured(haystack, found, whole)?;

@@ -29,14 +29,15 @@ impl RegexList {
     pub fn is_match_counted_at(&self, haystack: &str, start: usize) -> Result<(bool, Steps), Error>
         requires { CanStartAt haystack.now start }
         ensures found { IfOk result
-            (λ told. IsTrue told.0 ↔ AnyMatches self.now haystack.now start) }
-        ensures cost { IfOk result (λ told. IsWithinListCost self.now haystack.now start told.1) }
-        ensures entered { IfOk result (λ told. IsTrue told.0 → 0 < told.1.entered) }
+            (λ reported. IsTrue reported.0 ↔ AnyMatches self.now haystack.now start) }
+        ensures cost { IfOk result
+            (λ reported. IsWithinListCost self.now haystack.now start reported.1) }
+        ensures entered { IfOk result (λ reported. IsTrue reported.0 → 0 < reported.1.entered) }
         ensures refused { IfErr result (λ error. error ≡ out_of_memory) }
     {
         let graph = &self.compiled.graph;
-        let told = search_list_any(graph, self.alloc, haystack, start)?;
-        Ok(told)
+        let reported = search_list_any(graph, self.alloc, haystack, start)?;
+        Ok(reported)
     }
 
     /// [`RegexList::find_at`], and the cost of the search.
@@ -52,14 +53,17 @@ impl RegexList {
         start: usize,
     ) -> Result<(Option<(usize, Match<'h>)>, Steps), Error>
         requires { CanStartAt haystack.now start }
-        ensures found { IfOk result (λ told. TellsMatchOfList self.now haystack.now start told.0) }
-        ensures cost { IfOk result (λ told. IsWithinListCost self.now haystack.now start told.1) }
-        ensures entered { IfOk result (λ told. IfSome told.0 (λ _. 0 < told.1.entered)) }
+        ensures found { IfOk result
+            (λ reported. TellsMatchOfList self.now haystack.now start reported.0) }
+        ensures cost { IfOk result
+            (λ reported. IsWithinListCost self.now haystack.now start reported.1) }
+        ensures entered { IfOk result
+            (λ reported. IfSome reported.0 (λ _. 0 < reported.1.entered)) }
         ensures refused { IfErr result (λ error. error ≡ out_of_memory) }
     {
         let graph = &self.compiled.graph;
-        let (told, steps) = search_list(graph, self.alloc, haystack, start, 0)?;
-        let Some((number, outcome)) = told else {
+        let (reported, steps) = search_list(graph, self.alloc, haystack, start, 0)?;
+        let Some((number, outcome)) = reported else {
             return Ok((None, steps));
         };
         let found = Match::new(haystack, outcome.start, outcome.end);
@@ -80,17 +84,19 @@ impl RegexList {
     ) -> Result<(Option<(usize, Captures<'h>)>, Steps), Error>
         requires { CanStartAt haystack.now start }
         ensures found { IfOk result
-            (λ told. TellsGroupsOfList self.now haystack.now start told.0) }
-        ensures of_match { IfOk result (λ told. IfSome told.0 (AreOfPattern self.now)) }
-        ensures cost { IfOk result (λ told. IsWithinListCost self.now haystack.now start told.1) }
-        ensures entered { IfOk result (λ told. IfSome told.0 (λ _. 0 < told.1.entered)) }
+            (λ reported. TellsGroupsOfList self.now haystack.now start reported.0) }
+        ensures of_match { IfOk result (λ reported. IfSome reported.0 (AreOfPattern self.now)) }
+        ensures cost { IfOk result
+            (λ reported. IsWithinListCost self.now haystack.now start reported.1) }
+        ensures entered { IfOk result
+            (λ reported. IfSome reported.0 (λ _. 0 < reported.1.entered)) }
         ensures refused { IfErr result (λ error. error ≡ out_of_memory) }
     {
         let count = self.kept_slots();
         let whole = whole_slots(self.alloc, count)?;
         let graph = &self.compiled.graph;
-        let (told, steps) = search_list(graph, self.alloc, haystack, start, count)?;
-        let Some(found) = told else {
+        let (reported, steps) = search_list(graph, self.alloc, haystack, start, count)?;
+        let Some(found) = reported else {
             return Ok((None, steps));
         };
         let caps = self.captured(haystack, found, whole)?;

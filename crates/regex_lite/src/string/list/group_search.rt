@@ -9,7 +9,7 @@ ghost use Rattle.regex_lite.specs.RegexList.{AreTrees, OfTrees};
 ghost use Rattle.regex_lite.specs.RegexListSearches.{AreOfPattern, TellsGroupsOfList};
 ghost use Rattle.regex_lite.specs.Scanning.{AreSlotsForAllGroups, most_captures};
 ghost use Rattle.regex_lite.specs.Searches.{AreGroupsOf, CanStartAt};
-ghost use Rattle.regex_lite.specs.ToldWays.{IsToldOfWay, TellsOfListedWay};
+ghost use Rattle.regex_lite.specs.ReportedWays.{IsReportedOfWay, TellsOfListedWay};
 
 use crate::string::captures::Captures;
 use crate::string::list::RegexList;
@@ -70,8 +70,8 @@ impl RegexList {
         let count = self.kept_slots();
         let whole = whole_slots(self.alloc, count)?;
         let graph = &self.compiled.graph;
-        let told = search_list_uncounted(graph, self.alloc, haystack, start, count)?;
-        let Some(found) = told else {
+        let reported = search_list_uncounted(graph, self.alloc, haystack, start, count)?;
+        let Some(found) = reported else {
             return Ok(None);
         };
         let caps = self.captured(haystack, found, whole)?;
@@ -96,8 +96,9 @@ impl RegexList {
         requires whole { found.1.slots.items ≡ [] → length whole.items ≡ 2 }
         ensures found { (trees : List Tree) (tree : Tree) (own : Found) → AreTrees self.now trees
             → HasTree trees found.0 tree
-            → IsToldOfWay tree haystack.now (found.1.start, found.1.end) found.1.slots.items own
-            → IfOk result (λ told. (told.0 ≡ found.0) × AreGroupsOf tree haystack.now own told.1) }
+            → IsReportedOfWay tree haystack.now (found.1.start, found.1.end) found.1.slots.items own
+            → IfOk result (λ reported. (reported.0 ≡ found.0) × AreGroupsOf tree haystack.now own
+            reported.1) }
         ensures refused { IfErr result (λ error. error ≡ out_of_memory) }
     {
         let (number, Outcome { start, end, slots }) = found;

@@ -169,8 +169,8 @@ impl RegexList {
         let count = kept_of(self.slots_of(number));
         let whole = whole_slots(self.alloc, count)?;
         let graph = &self.compiled.graph;
-        let told = search_listed(graph, number, self.alloc, haystack, start, count)?;
-        let Some(Outcome { start, end, slots }) = told else {
+        let reported = search_listed(graph, number, self.alloc, haystack, start, count)?;
+        let Some(Outcome { start, end, slots }) = reported else {
             return Ok(None);
         };
         let slots = slots_with(slots, whole, (start, end));

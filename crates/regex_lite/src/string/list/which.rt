@@ -89,10 +89,12 @@ impl RegexList {
     ) -> Result<(SetMatches, Steps), Error>
         requires { CanStartAt haystack.now start }
         ensures found { IfOk result
-            (λ told. TellsWhichMatch self.now haystack.now start told.0) }
-        ensures cost { IfOk result (λ told. IsWithinListCost self.now haystack.now start told.1) }
-        ensures entered { IfOk result (λ told. (i : ℕ) → IsTrue (slice_index_or told.0 i false)
-            → 0 < told.1.entered) }
+            (λ reported. TellsWhichMatch self.now haystack.now start reported.0) }
+        ensures cost { IfOk result
+            (λ reported. IsWithinListCost self.now haystack.now start reported.1) }
+        ensures entered { IfOk result
+            (λ reported. (i : ℕ) → IsTrue (slice_index_or reported.0 i false) → 0
+            < reported.1.entered) }
         ensures refused { IfErr result (λ error. error ≡ out_of_memory) }
     {
         let graph = &self.compiled.graph;

@@ -27,15 +27,15 @@ loop-k-preserved c =
     let k = c.loop-k.k in
     let so = c.loop-k.invariant.0 in
     let same = c.loop-k.invariant.2 in
-    let told = option_map span_of_match c.find.result in
+    let reported = option_map span_of_match c.find.result in
     let less : k < length lens = omega (arith, c.loop-k-test.true, c.loop-k.auto.k-end) in
-    let room : k < length new = omega (arith, less, c.loop-k.auto.spans, c.requires.room) in
+    let buffer : k < length new = omega (arith, less, c.loop-k.auto.spans, c.requires.buffer) in
     let tells = tells_span c.loop-k.searcher c.range.result.now 0 c.find.result
     c.find.ensures.found in
-    let part : TellsSpan re (slice_range bytes at (at + get_or lens k 0)) 0 told =
-    subst (λ own. TellsSpan own (slice_range bytes at (at + get_or lens k 0)) 0 told) same
-    (subst (λ text. TellsSpan c.loop-k.searcher text 0 told) c.range.ensures.value tells) in (
-      one_searched re bytes lens at k old new c.of_group.result told so less room part
+    let part : TellsSpan re (slice_range bytes at (at + get_or lens k 0)) 0 reported =
+    subst (λ own. TellsSpan own (slice_range bytes at (at + get_or lens k 0)) 0 reported) same
+    (subst (λ text. TellsSpan c.loop-k.searcher text 0 reported) c.range.ensures.value tells) in (
+      one_searched re bytes lens at k old new c.of_group.result reported so less buffer part
           c.of_group.ensures,
       next_ends re bytes lens at k old new so less,
       c.find.ensures.same ∙ same,

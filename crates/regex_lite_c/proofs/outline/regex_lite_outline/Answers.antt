@@ -3,7 +3,7 @@ use Rattle.regex_lite_c.proofs.Common.{settings_of}
 use Rattle.regex_lite_syntax.specs.Errors.{kind_of}
 use Rattle.regex_lite.specs.Outlines.{AreParts, IsDueOnReading, IsReadable}
 use Rattle.regex_lite_c.proofs.build.RefusalLemmas.{above_five}
-use Rattle.regex_lite_c.proofs.outline.OutlineLemmas.{parts_told}
+use Rattle.regex_lite_c.proofs.outline.OutlineLemmas.{parts_reported}
 use Rattle.regex_lite_c.proofs.outline.regex_lite_outline.Goals as goal
 
 pub returns-in-Ok-parts_of : goal.returns-in-Ok-parts_of
@@ -15,7 +15,7 @@ returns-in-Ok-parts_of c =
     subst (λ p. AreParts (settings_of p options) own) text.0
     (subst (λ parts. AreParts (settings_of c.in-Ok.pattern.now options) parts)
     (sym c.deref.ensures.value) c.in-Ok-parts_of.ensures.parts) in
-    parts_told _ _ own c.args.parts.now c.write_parts.new.parts c.args.message.now _ text.1
+    parts_reported _ _ own c.args.parts.now c.write_parts.new.parts c.args.message.now _ text.1
     (are, c.write_parts.ensures.count) refl c.write_parts.ensures.written
     c.write_parts.ensures.no_room
 
@@ -41,7 +41,7 @@ returns-in-Err c =
       complete = λ _ _ _ readable. number
           ∙ ap (λ e. number_of (kind_of e)) (c.in-Err.ensures.complete
           (subst (λ p. IsReadable (settings_of p options)) (sym same) readable));
-      none_told = λ _ _. refl;
+      none_reported = λ _ _. refl;
       no_message = λ few. absurd (elim (few is_text) [
         | inl written ↦ omega (arith, written, number, large)
         | inr full ↦ omega (arith, full, number, large)

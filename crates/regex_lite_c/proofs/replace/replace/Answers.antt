@@ -1,7 +1,7 @@
 use Rattle.regex_lite_c.proofs.Common.{◌≡◌, ℕ, ◌⊎◌, List, length, sym, ◌∙◌, subst, inl, inr, arith}
 use Rattle.regex_lite_c.proofs.Common.{cases_lt, OUT_OF_MEMORY}
 use Rattle.regex_lite_c.specs.Replacing.{IsReplaced, IsTextAnswer}
-use Rattle.regex_lite_c.specs.Rooms.{IsWritten}
+use Rattle.regex_lite_c.specs.Buffers.{IsWritten}
 use Rattle.regex_lite_c.specs.declared.answer.TheConstants.{NOT_TEXT}
 use Rattle.regex_lite_c.proofs.replace.replace.Goals as goal
 
@@ -17,11 +17,11 @@ not_refused text old new len answer is wrong =
           elim wrong [ inl bad ↦ omega (arith, no, bad) | inr bad ↦ omega (arith, no, bad) ]
     ]
 
-text_told : (AreTexts : Type 0) (Says : List ℕ → Type 0) (text old new : List ℕ)
+text_reported : (AreTexts : Type 0) (Says : List ℕ → Type 0) (text old new : List ℕ)
     (old_len len answer : ℕ)
     → AreTexts → Says text → IsWritten text old new len answer
     → IsTextAnswer AreTexts Says old new old_len len answer
-text_told AreTexts Says text old new old_len len answer are says is =
+text_reported AreTexts Says text old new old_len len answer are says is =
     let never = not_refused text old new len answer is in
     record {
       not_text = (λ bad _. never (inl bad), λ none. absurd (none are));
@@ -37,8 +37,8 @@ returns-in-Ok-replaced-clause-answer c =
     let template = c.in-Ok-from_utf8.ensures.cases in
     let bytes = sym (c.as_bytes.ensures.value ∙ c.as_str.ensures.value) in
     let count = c.in-Ok-replaced.count in
-    text_told _ (λ new. IsReplaced re c.args.text.now c.args.template.now how new count)
-    c.as_bytes.result.now c.args.room.now c.write.new.room how.len c.write.new.len
+    text_reported _ (λ new. IsReplaced re c.args.text.now c.args.template.now how new count)
+    c.as_bytes.result.now c.args.buffer.now c.write.new.buffer how.len c.write.new.len
     c.write.result (text.1, template.1)
     (subst (λ t. IsReplaced re t c.args.template.now how c.as_bytes.result.now count) text.0
     (subst (λ t. IsReplaced re c.in-Ok.text.now t how c.as_bytes.result.now count) template.0

@@ -6,5 +6,6 @@ returns-clause-answer c =
     rw c.in-Some.ensures.taken (rw (sym c.deref.ensures) c.find_counted-answer.ensures.answer)
 
 pub returns-clause-cost : goal.returns-clause-cost
-returns-clause-cost c = λ told.
-    rw c.in-Some.ensures.taken (rw (sym c.deref.ensures) (c.find_counted-answer.ensures.cost told))
+returns-clause-cost c = λ reported.
+    rw c.in-Some.ensures.taken
+    (rw (sym c.deref.ensures) (c.find_counted-answer.ensures.cost reported))

@@ -13,12 +13,12 @@ pub returns-in-None-clause-listed : goal.returns-in-None-clause-listed
 returns-in-None-clause-listed g c =
     let kind = g.M.Sought.Written.kind in
     let so = c.loop-k.invariant in
-    let room = length c.args.spans.now in
+    let buffer = length c.args.spans.now in
     record {
       list = so.list;
       are_first =
           lists_to_end kind.found_of kind.IsAnswerTo (g.M.Spans.ahead c.args.matches.now)
-          (g.M.Spans.ahead c.loop-k.matches) room (room - c.loop-k.k) so.list so.lists
+          (g.M.Spans.ahead c.loop-k.matches) buffer (buffer - c.loop-k.k) so.list so.lists
           c.in-None.ensures.over;
       number = sym so.number;
       written = so.written;
@@ -42,11 +42,11 @@ returns-clause-listed g c =
     let so = c.loop-k.invariant in
     let start = g.M.Spans.ahead c.args.matches.now in
     let now = g.M.Spans.ahead c.loop-k.matches in
-    let room = length c.args.spans.now in
+    let buffer = length c.args.spans.now in
     record {
       list = so.list;
-      are_first = lists_all kind.found_of kind.IsAnswerTo start now room so.list
-          (subst (λ n. ListsAnswers kind.found_of kind.IsAnswerTo start now room n so.list)
+      are_first = lists_all kind.found_of kind.IsAnswerTo start now buffer so.list
+          (subst (λ n. ListsAnswers kind.found_of kind.IsAnswerTo start now buffer n so.list)
           (omega (arith, c.loop-k-test.false, c.loop-k.auto.spans)) so.lists);
       number =
           omega (arith, c.loop-k-test.false, c.loop-k.auto.spans, c.loop-k.auto.k-end, so.number);

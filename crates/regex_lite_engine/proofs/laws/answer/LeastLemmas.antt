@@ -102,20 +102,20 @@ least (suc long) P decide short few apart = elim (decide []) [
       least long (λ ks. P (l ∷ ks)) (λ ks. decide (l ∷ ks))
       (λ ks p. (let less = short (l ∷ ks) p in omega (arith, less)))
       (λ us. few (l ∷ us))
-      (λ a b p q. heads l a b (apart (l ∷ a) (l ∷ b) p q)))))
+      (λ a b p q. prefixes l a b (apart (l ∷ a) (l ∷ b) p q)))))
 ]
   where
     bound : (l : ℕ) (ks : List ℕ) → P (l ∷ ks) → l < 0 + (few []).0
     bound l ks p = let less = (few []).1 l ks p in omega (arith, less)
 
-    heads : (k : ℕ) (a b : List ℕ)
+    prefixes : (k : ℕ) (a b : List ℕ)
         → (k ∷ a ≡ k ∷ b) ⊎ (IsPreferred (k ∷ a) (k ∷ b) ⊎ IsPreferred (k ∷ b) (k ∷ a))
         → (a ≡ b) ⊎ (IsPreferred a b ⊎ IsPreferred b a)
-    heads k a b (inl e) = inl cc
-    heads k a b (inr (inl (inl less))) = absurd (omega (arith, less))
-    heads k a b (inr (inl (inr p))) = inr (inl p.1)
-    heads k a b (inr (inr (inl less))) = absurd (omega (arith, less))
-    heads k a b (inr (inr (inr p))) = inr (inr p.1)
+    prefixes k a b (inl e) = inl cc
+    prefixes k a b (inr (inl (inl less))) = absurd (omega (arith, less))
+    prefixes k a b (inr (inl (inr p))) = inr (inl p.1)
+    prefixes k a b (inr (inr (inl less))) = absurd (omega (arith, less))
+    prefixes k a b (inr (inr (inr p))) = inr (inr p.1)
 
     from_0 : (P [] → ⊥) → (ks : List ℕ) → P ks → From 0 P ks
     from_0 none [] p = none p

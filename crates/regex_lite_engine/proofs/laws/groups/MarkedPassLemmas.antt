@@ -4,8 +4,8 @@ use Rattle.regex_lite_engine.proofs.Common.{Some, None, Option, sym, refl, ap, â
 use Rattle.regex_lite_engine.proofs.Common.{Text, AtMost, complete, choice, Marks, no_marks, over}
 use Rattle.regex_lite_syntax.specs.Tree.Regular.{InOrder}
 use Rattle.regex_lite_engine.specs.Graph.Places.{Place}
-use Rattle.regex_lite_engine.proofs.laws.StandingLemmas.{InRow, InChoices, IsNullableStar}
-use Rattle.regex_lite_engine.proofs.laws.StandingLemmas.{IsBetween, IsBounded, IsRepetition}
+use Rattle.regex_lite_engine.proofs.laws.IsHereLemmas.{InRow, InChoices, IsNullableStar}
+use Rattle.regex_lite_engine.proofs.laws.IsHereLemmas.{IsBetween, IsBounded, IsRepetition}
 use Rattle.regex_lite_engine.proofs.laws.list.EntryLemmas.{over_assoc, over_none}
 use Rattle.regex_lite_engine.proofs.laws.groups.MarkingLemmas.{MarkedPasses}
 use Rattle.regex_lite_engine.proofs.laws.groups.MarkedWalkLemmas.{Each, fewer, no_walk}

@@ -6,8 +6,8 @@ use Rattle.regex_lite_engine.proofs.Common.{Text, AtMost, choice, Entry, onward,
 use Rattle.regex_lite_syntax.specs.Tree.Matches.{Passes}
 use Rattle.regex_lite_syntax.specs.Tree.Regular.{InOrder}
 use Rattle.regex_lite_engine.specs.Graph.Places.{Place}
-use Rattle.regex_lite_engine.proofs.laws.StandingLemmas.{InRow, InChoices, IsBetween}
-use Rattle.regex_lite_engine.proofs.laws.StandingLemmas.{IsBounded, IsRepetition}
+use Rattle.regex_lite_engine.proofs.laws.IsHereLemmas.{InRow, InChoices, IsBetween}
+use Rattle.regex_lite_engine.proofs.laws.IsHereLemmas.{IsBounded, IsRepetition}
 use Rattle.regex_lite_engine.specs.Search.PreferenceList.{passes, up_to, further}
 use Rattle.regex_lite_engine.proofs.laws.list.EntryLemmas.{onward_append, onward_assoc}
 use Rattle.regex_lite_engine.proofs.laws.list.EntryLemmas.{onward_stop, onward_nothing}

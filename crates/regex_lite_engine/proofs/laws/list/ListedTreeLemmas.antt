@@ -11,7 +11,7 @@ use Rattle.std.proofs.lemmas.Bool.{eqb-true}
 use Rattle.regex_lite_syntax.specs.Text.{before}
 use Rattle.regex_lite_syntax.specs.Tree.Regular.{AreRegular}
 use Rattle.regex_lite_engine.specs.Graph.Places.{Place}
-use Rattle.regex_lite_engine.proofs.laws.StandingLemmas.{Stands, StandInChain, StandAsBranches}
+use Rattle.regex_lite_engine.proofs.laws.IsHereLemmas.{Stands, StandInChain, StandAsBranches}
 use Rattle.regex_lite_engine.specs.Search.PreferenceList.{read, marking, list_of_chain}
 use Rattle.regex_lite_engine.specs.Search.PreferenceList.{list_of_branches, ReadsInPasses}
 use Rattle.regex_lite_engine.specs.Search.PreferenceList.{HaveReadingLoops}

@@ -79,15 +79,15 @@ module _ (table : List (Place ℕ)) (haystack : Text) (start s : ℕ) where
   abbrev walks : ℕ × ℕ → ℕ → Option (ℕ × ℕ)
   walks = numbered_step table haystack
 
-  abbrev Starts : List ℕ → ℕ × ℕ → Type 0
-  Starts = StartsAt (λ i. (start, i)) s (length haystack)
+  abbrev FirstSet : List ℕ → ℕ × ℕ → Type 0
+  FirstSet = StartsAt (λ i. (start, i)) s (length haystack)
 
   abbrev Whole : List ℕ → Type 0
-  Whole = IsWhole (ℕ × ℕ) walks (is_end table haystack) Starts
+  Whole = IsWhole (ℕ × ℕ) walks (is_end table haystack) FirstSet
 
   -- a search from position s on is over
   abbrev pub SearchIsOver : (ℕ × ℕ → Option (List ℕ)) → (best : Option (List ℕ)) → Type 0
-  SearchIsOver = IsExplored (ℕ × ℕ) walks (is_end table haystack) Starts
+  SearchIsOver = IsExplored (ℕ × ℕ) walks (is_end table haystack) FirstSet
 
   -- the answer has the start, the end and the marks of this way
   abbrev pub IsOfWay : Option (List ℕ) → Option Found → Type 0
@@ -114,7 +114,7 @@ module _ (table : List (Place ℕ)) (haystack : Text) (start s : ℕ) where
 
   -- the first of all ways has the answer's start and end, and marks what it does
   first_found : (found : Found) (way : List ℕ) (q : ℕ)
-      → IsFirst (ℕ × ℕ) walks (is_end table haystack) Starts (Some (found.start ∷ way))
+      → IsFirst (ℕ × ℕ) walks (is_end table haystack) FirstSet (Some (found.start ∷ way))
       → Leads (ℕ × ℕ) walks (start, found.start) way (q, found.end)
       → found.marks ≡ marks_along haystack (place_with table) (Some (start, found.start)) way
       → IsNumberedAnswer table haystack start s (Some found)
@@ -135,7 +135,7 @@ module _ (table : List (Place ℕ)) (haystack : Text) (start s : ℕ) where
       here : IsNumberedMatch table haystack start s found.start way q found.end
       here = by_start whole.is_start
         where
-          by_start : Starts whole.front whole.start
+          by_start : FirstSet whole.front whole.start
               → IsNumberedMatch table haystack start s found.start way q found.end
           by_start (i, low, high, e, f) =
               let all : found.start ∷ way ≡ i ∷ whole.arrows
@@ -171,7 +171,7 @@ module _ (table : List (Place ℕ)) (haystack : Text) (start s : ℕ) where
   answer_when_over recorded (Some best) answer x (found, way, q, e, best_is, along, marks) =
       let first = search_law (Some best)
       (starts_differ walks (is_end table haystack) (λ i. (start, i)) s (length haystack)) x in
-      let moved = subst (λ w. IsFirst (ℕ × ℕ) walks (is_end table haystack) Starts (Some w)) best_is
-      first in
+      let moved = subst (λ w. IsFirst (ℕ × ℕ) walks (is_end table haystack) FirstSet (Some w))
+      best_is first in
       subst (λ a. IsNumberedAnswer table haystack start s a) (sym e)
       (first_found found way q moved along marks)

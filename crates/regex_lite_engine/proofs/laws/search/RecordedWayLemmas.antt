@@ -77,23 +77,24 @@ module _ (N : Type 0) (step : N → ℕ → Option N) (is_end : N → Bool)
       (n, r ∙ ap Some e, subst (λ ks. Leads N step start ks n) rest moved)
 
   -- a beginning of a recorded way is recorded where it leads
-  abbrev HasBeginnings : List ℕ → Type 0
-  HasBeginnings way =
+  abbrev HasThreadStarts : List ℕ → Type 0
+  HasThreadStarts way =
       (front us vs : List ℕ) (start : N) → IsStart front start → way ≡ front ++ (us ++ vs)
       → IsRecorded front us start
 
-  beginning_within : (long : ℕ) (n : N) (way : List ℕ) → length way < long
-      → recorded n ≡ Some way → HasBeginnings way
-  beginning_within zero n way short r front us vs start is_start e = absurd (omega (arith, short))
-  beginning_within (suc long) n way short r front us vs start is_start e =
-      by_last (λ m other p q. beginning_within long m other p q) (grown n way r)
+  thread_start_within : (long : ℕ) (n : N) (way : List ℕ) → length way < long
+      → recorded n ≡ Some way → HasThreadStarts way
+  thread_start_within zero n way short r front us vs start is_start e = absurd
+      (omega (arith, short))
+  thread_start_within (suc long) n way short r front us vs start is_start e =
+      by_last (λ m other p q. thread_start_within long m other p q) (grown n way r)
     where
       whole_way : vs ≡ [] → IsRecorded front us start
       whole_way none =
           let all = ap (λ z. us ++ z) none ∙ append-nil us in
           recorded_here n way front us start is_start r (e ∙ ap (λ z. front ++ z) all)
 
-      by_cut : (m : N) (other : List ℕ) (k : ℕ) → way ≡ other ++ k ∷ [] → HasBeginnings other
+      by_cut : (m : N) (other : List ℕ) (k : ℕ) → way ≡ other ++ k ∷ [] → HasThreadStarts other
           → ((vs ≡ []) × (front ++ us ≡ other ++ k ∷ []))
           ⊎ ((ws : List ℕ) × (vs ≡ ws ++ k ∷ []) × ((front ++ us) ++ ws ≡ other))
           → IsRecorded front us start
@@ -102,7 +103,7 @@ module _ (N : Type 0) (step : N → ℕ → Option N) (is_end : N → Bool)
           earlier front us ws start is_start (sym all ∙ append_assoc front us ws)
 
       by_last : ((m : N) (other : List ℕ) → length other < long → recorded m ≡ Some other
-          → HasBeginnings other) → IsGrown N step is_end IsStart recorded best n way
+          → HasThreadStarts other) → IsGrown N step is_end IsStart recorded best n way
           → IsRecorded front us start
       by_last earlier (inl is_front) =
           let all = append-nil way ∙ e in
@@ -115,8 +116,8 @@ module _ (N : Type 0) (step : N → ℕ → Option N) (is_end : N → Bool)
           by_cut m other k f (earlier m other shorter q)
           (cut_snoc (front ++ us) vs other k (append_assoc front us vs ∙ sym e ∙ f))
 
-  beginning : (n : N) (way : List ℕ) → recorded n ≡ Some way → HasBeginnings way
-  beginning n way r = beginning_within (suc (length way)) n way (omega arith) r
+  thread_start : (n : N) (way : List ℕ) → recorded n ≡ Some way → HasThreadStarts way
+  thread_start n way r = thread_start_within (suc (length way)) n way (omega arith) r
 
   -- no recorded way comes to a node twice
   pub recorded_once : (n : N) (way front ks : List ℕ) (start : N) → IsStart front start
@@ -124,8 +125,8 @@ module _ (N : Type 0) (step : N → ℕ → Option N) (is_end : N → Bool)
   recorded_once n way front ks start is_start r e us vs ws m f to_m loop =
       let once = ap (λ z. front ++ z) f in
       let twice = ap (λ z. front ++ z) (f ∙ sym (append_assoc us vs ws)) in
-      let p = beginning n way r front us (vs ++ ws) start is_start (e ∙ once) in
-      let q = beginning n way r front (us ++ vs) ws start is_start (e ∙ twice) in
+      let p = thread_start n way r front us (vs ++ ws) start is_start (e ∙ once) in
+      let q = thread_start n way r front (us ++ vs) ws start is_start (e ∙ twice) in
       let at_p = leads_to_one step us start p.0 m p.2 to_m in
       let around = leads_append step us vs start m m to_m loop in
       let at_q = leads_to_one step (us ++ vs) start q.0 m q.2 around in

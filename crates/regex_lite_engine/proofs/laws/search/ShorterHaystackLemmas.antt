@@ -36,11 +36,11 @@ module _ (haystack : Text) (end i j : ℕ) where
       let less = before_end haystack end i read.0 read.1 in
       ap (read_past set i) (sym (after_kept haystack end i less)) ∙ s
 
-  taken_up_to : j ≤ end → (condition : Condition) → IsNoLook condition
+  loaded_to : j ≤ end → (condition : Condition) → IsNoLook condition
       → taken haystack condition i ≡ Some j → taken (take end haystack) condition i ≡ Some j
-  taken_up_to low free plain s = s
-  taken_up_to low (holding test) plain s = absurd plain
-  taken_up_to low (reading set) plain s =
+  loaded_to low free plain s = s
+  loaded_to low (holding test) plain s = absurd plain
+  loaded_to low (reading set) plain s =
       let read = was_read set i j (after haystack i) s in
       ap (read_past set i) (after_kept haystack end i (omega (arith, low, read.3))) ∙ s
 
@@ -95,7 +95,7 @@ module _ {A : Type 0} (place : A → Place A) (plain : (a : A) → RequiresNoLoo
   step_up_to n m k low s =
       let t = taken_at haystack (place n.0) n.1 k m (plain n.0) s in
       step_there (take end haystack) n.1 m t
-      (taken_up_to haystack end n.1 m.1 low t.arrow.condition t.plain t.fits)
+      (loaded_to haystack end n.1 m.1 low t.arrow.condition t.plain t.fits)
 
 module _ (tree : Tree) (haystack : Text) (found : Found)
     (plain : (a : Address) → RequiresNoLook (place_of_pattern tree a)) where

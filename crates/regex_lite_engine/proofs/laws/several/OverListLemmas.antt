@@ -31,15 +31,15 @@ module _ (table : List (Place ℕ)) (haystack : Text) (entries : List ℕ) (whol
   abbrev walks : ℕ × ℕ → ℕ → Option (ℕ × ℕ)
   walks = numbered_step table haystack
 
-  abbrev Starts : List ℕ → ℕ × ℕ → Type 0
-  Starts = StartsOf entries s last
+  abbrev FirstSet : List ℕ → ℕ × ℕ → Type 0
+  FirstSet = StartsOf entries s last
 
   abbrev Whole : List ℕ → Type 0
-  Whole = IsWhole (ℕ × ℕ) walks (is_wanted_end table haystack whole) Starts
+  Whole = IsWhole (ℕ × ℕ) walks (is_wanted_end table haystack whole) FirstSet
 
   -- a search for matches that start from position s to `last` is over
   abbrev pub IsOverOf : (ℕ × ℕ → Option (List ℕ)) → (best : Option (List ℕ)) → Type 0
-  IsOverOf = IsExplored (ℕ × ℕ) walks (is_wanted_end table haystack whole) Starts
+  IsOverOf = IsExplored (ℕ × ℕ) walks (is_wanted_end table haystack whole) FirstSet
 
   -- the answer has the number, the start, the end and the marks of this way
   abbrev pub IsOfWayOf : Option (List ℕ) → Option (ℕ × Found) → Type 0
@@ -61,7 +61,7 @@ module _ (table : List (Place ℕ)) (haystack : Text) (entries : List ℕ) (whol
   same_start : (x y i j : ℕ) → x ≡ y → i ≡ j → ◌≡◌ {A = ℕ × ℕ} (x, i) (y, j)
   same_start x y i j e f = λ t. (e t, f t)
 
-  pub differ : StartsDiffer (ℕ × ℕ) walks (is_wanted_end table haystack whole) Starts
+  pub differ : StartsDiffer (ℕ × ℕ) walks (is_wanted_end table haystack whole) FirstSet
   differ a b more other n m (i, k, x, _, _, p, e, f) (j, l, y, _, _, q, g, h) parts =
       let all : i ∷ (k ∷ more) ≡ j ∷ (l ∷ other)
       = sym (ap (λ z. z ++ more) e) ∙ parts ∙ ap (λ z. z ++ other) g in (
@@ -87,7 +87,7 @@ module _ (table : List (Place ℕ)) (haystack : Text) (entries : List ℕ) (whol
   -- the first of all ways has the answer's number, start and end, and marks what it does
   module _ (inside : last ≤ length haystack) (number entry : ℕ) (found : Found) (way : List ℕ)
       (q : ℕ) (is_entry : IsEntry entries number entry)
-      (first : IsFirst (ℕ × ℕ) walks (is_wanted_end table haystack whole) Starts
+      (first : IsFirst (ℕ × ℕ) walks (is_wanted_end table haystack whole) FirstSet
       (Some (found.start ∷ (number ∷ way))))
       (along : Leads (ℕ × ℕ) walks (entry, found.start) way (q, found.end))
       (marks : found.marks
@@ -96,7 +96,7 @@ module _ (table : List (Place ℕ)) (haystack : Text) (entries : List ℕ) (whol
         × IsWantedMatch table haystack whole entry s found.start way q found.end
     own_match = by_start first.0.is_start
       where
-        by_start : Starts first.0.front first.0.start → (found.start ≤ last)
+        by_start : FirstSet first.0.front first.0.start → (found.start ≤ last)
             × IsWantedMatch table haystack whole entry s found.start way q found.end
         by_start (i, k, x, low, high, p, e, f) =
             let all : found.start ∷ (number ∷ way) ≡ i ∷ (k ∷ first.0.arrows)
@@ -195,7 +195,7 @@ module _ (table : List (Place ℕ)) (haystack : Text) (entries : List ℕ) (whol
   list_answer_when_over inside recorded (Some best) answer x
       (number, entry, found, way, q, e, is_entry, best_is, along, marks) =
       let first = search_law (Some best) differ x in
-      let moved = subst (λ w. IsFirst (ℕ × ℕ) walks (is_wanted_end table haystack whole) Starts
+      let moved = subst (λ w. IsFirst (ℕ × ℕ) walks (is_wanted_end table haystack whole) FirstSet
       (Some w)) best_is
       first in
       subst (λ a. IsWantedAnswerTo table haystack entries whole s last a) (sym e)

@@ -4,18 +4,18 @@ use Rattle.regex_lite_engine.proofs.Common.{◌≡◌, ℕ, suc, ◌+◌, ◌^�
 use Rattle.regex_lite_engine.proofs.Common.{length, get_or, option_map, sym, refl, ap, ◌∙◌, subst}
 use Rattle.regex_lite_engine.proofs.Common.{arith, length-map, sum_by-cons, slice_get-get_or}
 use Rattle.regex_lite_engine.proofs.Common.{slice_get-map, Tree, Address, reading_places}
-use Rattle.regex_lite_engine.proofs.Common.{whole_places, reading_count, reading_of, kept_back}
-use Rattle.regex_lite_engine.proofs.Common.{kept_back_of, IsRenumbered, side_by_side, places_of_all}
-use Rattle.regex_lite_engine.proofs.Common.{arrows_of_all, AreEntries, place_of, LeadsBelow}
-use Rattle.regex_lite_engine.proofs.Common.{pattern_table, patterns_table, patterns_entries}
-use Rattle.regex_lite_engine.proofs.Common.{reading_of_all}
+use Rattle.regex_lite_engine.proofs.Common.{whole_places, reading_count, reading_of, stack_bound}
+use Rattle.regex_lite_engine.proofs.Common.{stack_bound_of, IsRenumbered, side_by_side}
+use Rattle.regex_lite_engine.proofs.Common.{places_of_all, arrows_of_all, AreEntries, place_of}
+use Rattle.regex_lite_engine.proofs.Common.{LeadsBelow, pattern_table, patterns_table}
+use Rattle.regex_lite_engine.proofs.Common.{patterns_entries, reading_of_all}
 use Rattle.std.proofs.Common.{All}
 use Rattle.std.proofs.lemmas.List.Sums.{sum_by-append}
 use Rattle.regex_lite_engine.specs.Graph.Parts.{HaveOwnParts}
 use Rattle.regex_lite_engine.specs.Graph.SideBySide.{AreRegularPatterns}
 use Rattle.regex_lite_engine.specs.Graph.Stored.{IsClosed}
 use Rattle.regex_lite_engine.specs.declared.nfa.place.Place as code
-use Rattle.regex_lite_engine.proofs.count.KeptBackLemmas.{kept_back_pattern}
+use Rattle.regex_lite_engine.proofs.count.StackBoundLemmas.{stack_bound_pattern}
 use Rattle.regex_lite_engine.proofs.count.ReadingCountLemmas.{reading_pattern}
 use Rattle.regex_lite_engine.proofs.ArrowBoundLemmas.{arrows_all_few}
 use Rattle.regex_lite_engine.proofs.count.TotalLemmas.{reading_all_few}
@@ -35,15 +35,15 @@ reading_adds_up (tree ∷ trees) base =
     omega (arith, both, sum, reading_pattern tree base, reading_adds_up trees later)
 
 -- in each pattern less is kept back than there are places
-kept_back_few : (trees : List Tree) → AreRegularPatterns trees → (base : ℕ)
-    → kept_back_of (patterns_table trees base) + length trees ≤ places_of_all trees
-kept_back_few [] regular base = omega arith
-kept_back_few (tree ∷ trees) regular base =
+stack_bound_few : (trees : List Tree) → AreRegularPatterns trees → (base : ℕ)
+    → stack_bound_of (patterns_table trees base) + length trees ≤ places_of_all trees
+stack_bound_few [] regular base = omega arith
+stack_bound_few (tree ∷ trees) regular base =
     let later = base + whole_places tree in
-    let both = sum_by-append kept_back (pattern_table tree base) (patterns_table trees later) in
+    let both = sum_by-append stack_bound (pattern_table tree base) (patterns_table trees later) in
     let sum = sum_by-cons whole_places tree trees in
-    let here = kept_back_pattern tree (regular 0 tree refl) base in
-    omega (arith, both, sum, here, kept_back_few trees (λ k. regular (suc k)) later)
+    let here = stack_bound_pattern tree (regular 0 tree refl) base in
+    omega (arith, both, sum, here, stack_bound_few trees (λ k. regular (suc k)) later)
 
 -- no pattern, no place
 some_tree : (trees : List Tree) → 0 < places_of_all trees → 0 < length trees
@@ -88,9 +88,9 @@ module _ (trees : List Tree) (regular : AreRegularPatterns trees) (places : List
     few_reading = λ some.
         omega (arith, all, reading_are, reading_all_few trees, trees_there some);
     each_reading = ap reading_of table_is ∙ reading_adds_up trees 0 ∙ sym reading_are;
-    few_kept_back = λ some.
-        let few = kept_back_few trees regular 0 in
-        omega (arith, all, few, ap kept_back_of table_is, trees_there some);
+    few_stack_bound = λ some.
+        let few = stack_bound_few trees regular 0 in
+        omega (arith, all, few, ap stack_bound_of table_is, trees_there some);
   }
     where
       trees_there : 0 < length places → 0 < length trees

@@ -27,13 +27,13 @@ EndsInPlace result old new place = record {
 pub place_added : {E : Type 0} (result : Result ℕ E) (old new : List code.Place)
     (stored : code.Place) {place : Place ℕ} → place_of stored ≡ place
     → EndsInStored result old new stored → EndsInPlace result old new place
-place_added (Ok number) old new stored is told = record {
-  number = told.number;
-  added = ap (λ places. map place_of places) told.added ∙ map_push place_of old stored
+place_added (Ok number) old new stored is reported = record {
+  number = reported.number;
+  added = ap (λ places. map place_of places) reported.added ∙ map_push place_of old stored
       ∙ ap (λ (q : Place ℕ). map place_of old ++ q ∷ []) is;
-  grown = ap (λ places. length places) told.added ∙ length_push old stored;
+  grown = ap (λ places. length places) reported.added ∙ length_push old stored;
 }
-place_added (Err e) old new stored is told = record { number = tt; added = tt; grown = tt }
+place_added (Err e) old new stored is reported = record { number = tt; added = tt; grown = tt }
 
 -- a part is written after the rest, and leads on to it
 pub before_rest : (body : ℕ → ℕ → Fragment) (old whole new : List (Place ℕ)) (rest : Fragment)

@@ -25,14 +25,15 @@ module _ {E : Type 0} (result : Result ℕ E) (old new : List code.Place) (exit 
   pub one_written : {tree leaf : Tree} (place : Place ℕ) → tree ≡ leaf
       → layout leaf (length old) exit ≡ alone place (length old) → places leaf ≡ 1
       → EndsInPlace result old new place → IsWritten result old new exit tree
-  one_written {leaf = leaf} place same is one told = written_same same (by_result result told)
+  one_written {leaf = leaf} place same is one reported = written_same same
+      (by_result result reported)
     where
       by_result : (r : Result ℕ E) → EndsInPlace r old new place → IsWritten r old new exit leaf
-      by_result (Ok number) told = record {
+      by_result (Ok number) reported = record {
         written = (
-          told.number ∙ ap (λ part. part.1) (sym is),
-          told.added ∙ ap (λ part. map place_of old ++ part.0) (sym is),
+          reported.number ∙ ap (λ part. part.1) (sym is),
+          reported.added ∙ ap (λ part. map place_of old ++ part.0) (sym is),
         );
-        grown = told.grown ∙ ap (λ k. length old + k) (sym one);
+        grown = reported.grown ∙ ap (λ k. length old + k) (sym one);
       }
-      by_result (Err e) told = record { written = tt; grown = tt }
+      by_result (Err e) reported = record { written = tt; grown = tt }

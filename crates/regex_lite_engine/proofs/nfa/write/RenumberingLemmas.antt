@@ -4,7 +4,7 @@ use Rattle.regex_lite_engine.proofs.Common.{◌∷◌, ◌++◌, map, length, ge
 use Rattle.regex_lite_engine.proofs.Common.{option_map, sym, refl, ap, ◌∙◌, subst, append_assoc}
 use Rattle.regex_lite_engine.proofs.Common.{arith, length-append, length-map, slice_get-map, Tree}
 use Rattle.regex_lite_engine.proofs.Common.{IsRegular, Address, entry, Arrow, complete, with_arrows}
-use Rattle.regex_lite_engine.proofs.Common.{reading_of, kept_back_of, IsRenumbered, IsNumberOf}
+use Rattle.regex_lite_engine.proofs.Common.{reading_of, stack_bound_of, IsRenumbered, IsNumberOf}
 use Rattle.regex_lite_engine.proofs.Common.{Content, place_of, LeadBelow, LeadsBelow, LeadInto}
 use Rattle.regex_lite_engine.proofs.Common.{LeadsInto, place_at, whole, end_address, start_address}
 use Rattle.regex_lite_engine.proofs.Common.{written_out, pattern_layout, pattern_table}
@@ -165,8 +165,8 @@ module _ (tree : Tree) (regular : IsRegular tree) where
     -- a table with these places leads to its own places
     pub closed : (arrows reading : ℕ) → length places < 2 ^ 32 → arrows < 2 ^ 34
         → reading < length places → reading_of (pattern_table tree 0) ≡ reading
-        → kept_back_of (pattern_table tree 0) < length places → IsClosed places arrows reading
-    closed arrows reading few_places few_arrows few_reading each_reading few_kept_back = record {
+        → stack_bound_of (pattern_table tree 0) < length places → IsClosed places arrows reading
+    closed arrows reading few_places few_arrows few_reading each_reading few_stack_bound = record {
       each_inside = λ q place e. (
           let stored = ap (λ table. slice_get table q) (sym table_is)
           ∙ slice_get-map place_of places q ∙ ap (option_map place_of) e in
@@ -177,7 +177,7 @@ module _ (tree : Tree) (regular : IsRegular tree) where
       few_arrows = few_arrows;
       few_reading = λ some. few_reading;
       each_reading = ap reading_of table_is ∙ each_reading;
-      few_kept_back = λ some. omega (arith, ap kept_back_of table_is, few_kept_back);
+      few_stack_bound = λ some. omega (arith, ap stack_bound_of table_is, few_stack_bound);
     }
 
     -- and it has the place where the pattern starts

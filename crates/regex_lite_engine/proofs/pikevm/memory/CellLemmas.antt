@@ -66,15 +66,16 @@ row_other First j k lt e = omega (arith, lt, e)
 row_other Second j k lt e = omega (arith, lt, e)
 
 -- what does not distinguish the new cell from the old one
-pub not_told : {S X : Type 0} (f : Cell S → X) (cells : List (Cell S)) (i : ℕ) (x y : Cell S)
+pub not_reported : {S X : Type 0} (f : Cell S → X) (cells : List (Cell S)) (i : ℕ) (x y : Cell S)
     → x ≡ slice_index_or cells i x → f y ≡ f x → map f (set cells i y) ≡ map f cells
-not_told f cells i x y is e = map-set_same f cells i y x (e ∙ ap f is)
+not_reported f cells i x y is e = map-set_same f cells i y x (e ∙ ap f is)
 
-pub told_at : {S X : Type 0} (f : Cell S → X) (d : X) (cells : List (Cell S)) (k : ℕ) (x : Cell S)
-    → k < length cells → x ≡ slice_index_or cells k x → slice_index_or (map f cells) k d ≡ f x
-told_at f d [] k x lt is = absurd (omega (arith, lt))
-told_at f d (y ∷ cells) zero x lt is = ap f (sym is)
-told_at f d (y ∷ cells) (suc k) x lt is = told_at f d cells k x (omega (arith, lt)) is
+pub reported_at : {S X : Type 0} (f : Cell S → X) (d : X) (cells : List (Cell S)) (k : ℕ)
+    (x : Cell S) → k < length cells → x ≡ slice_index_or cells k x → slice_index_or (map f cells) k
+    d ≡ f x
+reported_at f d [] k x lt is = absurd (omega (arith, lt))
+reported_at f d (y ∷ cells) zero x lt is = ap f (sym is)
+reported_at f d (y ∷ cells) (suc k) x lt is = reported_at f d cells k x (omega (arith, lt)) is
 
 -- the frames
 pub frame_put : {S : Type 0} (cells : List (Cell S)) (depth : ℕ) (y : Cell S) → depth < length cells
@@ -95,7 +96,7 @@ frame_taken cells depth x some fits is =
     ∙ ap reverse (take_more (map frame_in cells) (depth - 1) (frame_in x)
     (omega (arith, lt, length-map cells frame_in)))
     ∙ ap (λ f. reverse (take (depth - 1) (map frame_in cells) ++ f ∷ []))
-    (told_at frame_in (frame_in x) cells (depth - 1) x lt is)
+    (reported_at frame_in (frame_in x) cells (depth - 1) x lt is)
     ∙ reverse-append (take (depth - 1) (map frame_in cells)) (frame_in x ∷ [])
 
 pub frames_long : {S : Type 0} (cells : List (Cell S)) (depth : ℕ) → depth ≤ length cells

@@ -2,8 +2,9 @@
 use Rattle.regex_lite_engine.proofs.Common.{◌≡◌, ℕ, ◌<◌, ◌≤◌, List, map, reverse, length, take, set}
 use Rattle.regex_lite_engine.proofs.Common.{slice_index, slice_index_or, sym, ap, ◌∙◌, arith}
 use Rattle.regex_lite_engine.proofs.Common.{length-set, get_or-take, length-take, take-take}
-use Rattle.regex_lite_engine.proofs.Common.{frame_in, place_on, threads_on, Told, untold, Row, Cell}
-use Rattle.regex_lite_engine.specs.Pikevm.Cells.{Continues, HoldTogether, start_told, frames_in}
+use Rattle.regex_lite_engine.proofs.Common.{frame_in, place_on, threads_on, Reported, no_start, Row}
+use Rattle.regex_lite_engine.proofs.Common.{Cell}
+use Rattle.regex_lite_engine.specs.Pikevm.Cells.{Continues, HoldTogether, start_reported, frames_in}
 use Rattle.regex_lite_engine.specs.Pikevm.Cells.{thread_on}
 use Rattle.std.proofs.lemmas.List.{take-map}
 use Rattle.regex_lite_engine.specs.declared.pikevm.cell.Side.{Side}
@@ -74,23 +75,23 @@ module _ {S : Type 0} {cells cells' : List (Cell S)} (more : Continues cells cel
       ap reverse (sym (take-take depth (length cells) (map frame_in cells') le)
       ∙ ap (take depth) (alike frame_in))
 
-  pub threads_stay : (told : S → Told) (s : Side) (rows : List Row) (room : ℕ) {n : ℕ}
+  pub threads_stay : (reported : S → Reported) (s : Side) (rows : List Row) (room : ℕ) {n : ℕ}
       → n ≤ length cells
-      → threads_on told s cells' rows room n ≡ threads_on told s cells rows room n
-  threads_stay told s rows room {n} le =
-      listed_alike (thread_on told s cells' rows room) (thread_on told s cells rows room) 0 n
-      (λ k low lt. here k (omega (arith, lt, le)))
+      → threads_on reported s cells' rows room n ≡ threads_on reported s cells rows room n
+  threads_stay reported s rows room {n} le =
+      listed_alike (thread_on reported s cells' rows room) (thread_on reported s cells rows room) 0
+      n (λ k low lt. here k (omega (arith, lt, le)))
     where
       here : (k : ℕ) → k < length cells
-          → thread_on told s cells' rows room k ≡ thread_on told s cells rows room k
+          → thread_on reported s cells' rows room k ≡ thread_on reported s cells rows room k
       here k lt =
           let p : slice_index (map (place_on s) cells') k ≡ slice_index (map (place_on s) cells) k =
           sym (get_or-take (length cells) (map (place_on s) cells') k 0 lt)
           ∙ ap (λ ps. slice_index ps k) (alike (place_on s)) in
-          let t : slice_index_or (map (start_told told s) cells') k untold
-          ≡ slice_index_or (map (start_told told s) cells) k untold =
-          sym (get_or-take (length cells) (map (start_told told s) cells') k untold lt)
-          ∙ ap (λ ss. slice_index_or ss k untold) (alike (start_told told s)) in
+          let t : slice_index_or (map (start_reported reported s) cells') k no_start
+          ≡ slice_index_or (map (start_reported reported s) cells) k no_start =
+          sym (get_or-take (length cells) (map (start_reported reported s) cells') k no_start lt)
+          ∙ ap (λ ss. slice_index_or ss k no_start) (alike (start_reported reported s)) in
           cc
 
 -- nothing is left

@@ -6,13 +6,13 @@ use Rattle.regex_lite_engine.proofs.Common.{cases_eq, cases_lt, length-map}
 use Rattle.regex_lite_engine.proofs.Common.{length-map-range_with_len, slice_get-get_or}
 use Rattle.regex_lite_engine.proofs.Common.{slice_get_within, range_with_len, Text, after}
 use Rattle.regex_lite_engine.proofs.Common.{StoredList, table_of_list, is_candidate_at, may_go_on}
-use Rattle.regex_lite_engine.proofs.Common.{IsEntry, IsDeadAt, AreStartsAt, AreListHeadsOf}
-use Rattle.regex_lite_engine.proofs.Common.{start_numbered, ListHeads, Start}
+use Rattle.regex_lite_engine.proofs.Common.{IsEntry, IsDeadAt, AreStartsAt, IsPrefixIndexOf}
+use Rattle.regex_lite_engine.proofs.Common.{start_numbered, PrefixIndex, Start}
 use Rattle.std.proofs.lemmas.List.{get_or_default}
 use Rattle.std.proofs.lemmas.Option.{get_or_from_slice_get}
 use Rattle.regex_lite_engine.specs.Search.Starts.{IsAmong, AreAllStarts, AreFrom}
 use Rattle.std.proofs.Common.{cond}
-use Rattle.regex_lite_syntax.specs.Prefilter.ListHeads.{may_start_at}
+use Rattle.regex_lite_syntax.specs.Prefilter.PrefixIndex.{may_start_at}
 use Rattle.std.specs.List.{All, filter}
 use Rattle.std.proofs.Math.ListN.{get_or-map}
 use Rattle.regex_lite_engine.specs.Graph.Places.{Place}
@@ -119,18 +119,19 @@ tested_start table haystack entries p test dead numbers listed =
         (omega (arith, within)) may (get_or_from_slice_get entries number entry 0 is))
     by_test number entry is false off = inr (dead number entry is off)
 
-pub listed_start : (table : List (Place ℕ)) (haystack : Text) (entries : List ℕ) (heads : ListHeads)
-    → AreListHeadsOf table entries heads → (p : ℕ) (numbers : List ℕ)
-    → numbers ≡ filter (is_candidate_at heads haystack p) (range_with_len 0 (length entries))
+pub listed_start : (table : List (Place ℕ)) (haystack : Text) (entries : List ℕ)
+    (prefixes : PrefixIndex) → IsPrefixIndexOf table entries prefixes → (p : ℕ) (numbers : List ℕ)
+    → numbers ≡ filter (is_candidate_at prefixes haystack p) (range_with_len 0 (length entries))
     → AreStartsAt table haystack entries p (map (start_numbered entries) numbers)
-listed_start table haystack entries heads w p numbers listed =
-    tested_start table haystack entries p (is_candidate_at heads haystack p)
-    (λ number entry is off. by_part number entry is (may_start_at heads haystack p number)
-    (may_go_on heads.thirds (after haystack (suc (suc p))) number) refl refl off) numbers listed
+listed_start table haystack entries prefixes w p numbers listed =
+    tested_start table haystack entries p (is_candidate_at prefixes haystack p)
+    (λ number entry is off. by_part number entry is (may_start_at prefixes haystack p number)
+    (may_go_on prefixes.third_masks (after haystack (suc (suc p))) number) refl refl off) numbers
+    listed
   where
     by_part : (number entry : ℕ) → IsEntry entries number entry → (a b : Bool)
-        → may_start_at heads haystack p number ≡ a
-        → may_go_on heads.thirds (after haystack (suc (suc p))) number ≡ b
+        → may_start_at prefixes haystack p number ≡ a
+        → may_go_on prefixes.third_masks (after haystack (suc (suc p))) number ≡ b
         → (a && b) ≡ false → IsDeadAt table haystack entry p
     by_part number entry is false b by_two by_third off = w.each haystack p number entry is by_two
     by_part number entry is true false by_two by_third off =

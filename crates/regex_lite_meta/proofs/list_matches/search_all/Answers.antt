@@ -35,30 +35,30 @@ loop-number-preserved c =
       all = length-set matched number c.in_ok-found.found ∙ v.all;
       found = λ trees regular is k tree less there. elim (cases_lt k number) [
         | inl old ↦
-            subst (λ told. IsTrue told ↔ HasMatchFrom tree h s)
+            subst (λ reported. IsTrue reported ↔ HasMatchFrom tree h s)
             (sym (get_or-set_other matched number k c.in_ok-found.found false
             (λ e. absurd (omega (arith, e, old)))))
             (v.found trees regular is k tree old there)
         | inr le ↦
             let same : number ≡ k = omega (arith, less, le) in
-            subst (λ told. IsTrue told ↔ HasMatchFrom tree h s)
+            subst (λ reported. IsTrue reported ↔ HasMatchFrom tree h s)
             (sym (ap (λ n. slice_index_or (slice_set matched number c.in_ok-found.found) n false)
             (sym same)
             ∙ get_or-set_same matched number c.in_ok-found.found false room))
             (c.in_ok-found.ensures.found trees tree regular is (ap (slice_get trees) same ∙ there))
       ];
-      entered = λ k less told. elim (cases_lt k number) [
+      entered = λ k less reported. elim (cases_lt k number) [
         | inl old ↦
             let some = v.entered k old (subst IsTrue
             (get_or-set_other matched number k c.in_ok-found.found false
-            (λ e. absurd (omega (arith, e, old)))) told) in
+            (λ e. absurd (omega (arith, e, old)))) reported) in
             counted (omega (arith, some))
         | inr le ↦
             let same : number ≡ k = omega (arith, less, le) in
             let some = c.in_ok-found.ensures.entered (subst IsTrue
             (ap (λ n. slice_index_or (slice_set matched number c.in_ok-found.found) n false)
             (sym same)
-            ∙ get_or-set_same matched number c.in_ok-found.found false room) told) in
+            ∙ get_or-set_same matched number c.in_ok-found.found false room) reported) in
             counted (omega (arith, some))
       ];
       cost = λ trees is. (
@@ -73,8 +73,8 @@ loop-number-preserved c =
           (c.in_ok-found.ensures.cost trees tree is there) in
           let places = sum_by_more whole_places trees number empty within in
           let tries = sum_by_more (λ t. whole_arrows t + 1) trees number empty within in
-          let told = c.plus-steps.ensures in
-          rw (places, tries, told.tried, told.entered, told.looked) both);
+          let reported = c.plus-steps.ensures in
+          rw (places, tries, reported.tried, reported.entered, reported.looked) both);
     }
   where
     counted : 0 < c.loop-number.steps.entered + c.in_ok-found.own.entered
@@ -121,21 +121,22 @@ returns-clause-cost c = λ trees is.
     (v.cost trees is)
 
 pub returns-clause-entered : goal.returns-clause-entered
-returns-clause-entered c = λ k told. elim (cases_lt k c.loop-number.number) [
-  | inl less ↦ c.loop-number.invariant.entered k less told
+returns-clause-entered c = λ k reported. elim (cases_lt k c.loop-number.number) [
+  | inl less ↦ c.loop-number.invariant.entered k less reported
   | inr le ↦
       let all = c.loop-number.invariant.all in
       absurd (not_beyond c.loop-number.matched k
       (omega
       (arith, le, all, c.requires.all, c.loop-number-test.false, c.len-number-end.ensures.same))
-      told)
+      reported)
 ]
   where
     beyond : (list : List Bool) (k : ℕ) → length list ≤ k → slice_index_or list k false ≡ false
     beyond [] k le = refl
-    beyond (told ∷ list) zero le = absurd (omega (arith, le))
-    beyond (told ∷ list) (suc k) le = beyond list k (omega (arith, le))
+    beyond (reported ∷ list) zero le = absurd (omega (arith, le))
+    beyond (reported ∷ list) (suc k) le = beyond list k (omega (arith, le))
 
     not_beyond : (list : List Bool) (k : ℕ) → length list ≤ k
         → IsTrue (slice_index_or list k false) → ⊥
-    not_beyond list k le told = let is : IsTrue false = subst IsTrue (beyond list k le) told in cc
+    not_beyond list k le reported = let is : IsTrue false = subst IsTrue (beyond list k le)
+        reported in cc

@@ -13,10 +13,10 @@ returns c = record {
   found = λ trees regular is.
       let haystack = c.args.haystack.now in
       let found = c.in_ok-steps.ensures.found trees regular is in
-      let told = c.search_all.new.matched in
+      let reported = c.search_all.new.matched in
       let all = found.all in
       let each = is.each_entry in
-      let len : c.in_ok-matched.matched.len ≡ length told
+      let len : c.in_ok-matched.matched.len ≡ length reported
       =
       omega (
         arith,
@@ -26,21 +26,21 @@ returns c = record {
         c.len.ensures.same,
         c.in_ok-matched.matched.ok,
       ) in
-      let same = ap (λ n. take n (told ++ drop (length told) c.in_ok-matched.matched.items)) len
-      ∙ take-append_seam told (drop (length told) c.in_ok-matched.matched.items) in
+      let same = ap (λ n. take n (reported ++ drop (length reported) c.in_ok-matched.matched.items))
+      len ∙ take-append_seam reported (drop (length reported) c.in_ok-matched.matched.items) in
       subst (λ list. TellsWhich trees (chars haystack) (search_start haystack c.args.start) list)
       (sym same)
       (at_position trees c.args.list.now is haystack c.args.start
       (omega (arith, c.if-start-haystack.false))
-      (λ s. TellsWhich trees (chars haystack) s told) found);
-  entered = λ k told.
+      (λ s. TellsWhich trees (chars haystack) s reported) found);
+  entered = λ k reported.
       let new = c.search_all.new.matched in
       let len : c.in_ok-matched.matched.len ≡ length new
       = omega (arith, c.search_all.ensures.length, c.in_ok-matched.matched.ok) in
       let same = ap (λ n. take n (new ++ drop (length new) c.in_ok-matched.matched.items)) len
       ∙ take-append_seam new (drop (length new) c.in_ok-matched.matched.items) in
       c.in_ok-steps.ensures.entered k
-      (subst (λ list. IsTrue (slice_index_or list k false)) same told);
+      (subst (λ list. IsTrue (slice_index_or list k false)) same reported);
   cost = λ trees is.
       let haystack = c.args.haystack.now in
       let steps = c.in_ok-steps.steps in

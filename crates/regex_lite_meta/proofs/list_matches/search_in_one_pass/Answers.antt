@@ -9,16 +9,16 @@ pub returns : goal.returns
 returns c = λ trees regular is.
     let haystack = c.args.haystack.now in
     let found = c.in_ok-search.ensures.found trees regular is in
-    let told = c.search.new.matched in
+    let reported = c.search.new.matched in
     let matched = c.in_ok-matched.matched in
     let all = found.all in
     let each = is.each_entry in
-    let len : matched.len ≡ length told
+    let len : matched.len ≡ length reported
     = omega (arith, all, each, c.in_ok-matched.ensures.len, c.len.ensures.same, matched.ok) in
-    let same = ap (λ n. take n (told ++ drop (length told) matched.items)) len
-    ∙ take-append_seam told (drop (length told) matched.items) in
+    let same = ap (λ n. take n (reported ++ drop (length reported) matched.items)) len
+    ∙ take-append_seam reported (drop (length reported) matched.items) in
     subst (λ list. TellsWhich trees (chars haystack) (search_start haystack c.args.start) list)
     (sym same)
     (at_position trees c.args.list.now is haystack c.args.start
     c.requires.0
-    (λ s. TellsWhich trees (chars haystack) s told) found)
+    (λ s. TellsWhich trees (chars haystack) s reported) found)

@@ -12,9 +12,9 @@ returns c = λ trees regular is.
     let haystack = c.args.haystack.now in
     let list = c.args.list.now in
     let start = c.args.start in
-    let told = c.which_stand.new.told in
+    let reported = c.which_stand.new.reported in
     let matched = c.in_ok-matched.matched in
-    let all : length told ≡ length list.entries = omega (
+    let all : length reported ≡ length list.entries = omega (
       arith,
       c.which_stand.ensures.length,
       c.in_ok-matched.ensures.len,
@@ -22,14 +22,14 @@ returns c = λ trees regular is.
       matched.ok,
     ) in
     let found = words_tell list haystack start c.utf8.haystack c.requires.boundary
-    c.args.words.now c.requires.each told all
-    (subst (λ bytes. TellsWhichStand c.args.words.now bytes start told) c.as_bytes.ensures.value
-    c.which_stand.ensures.told) trees regular is in
-    let len : matched.len ≡ length told
+    c.args.words.now c.requires.each reported all
+    (subst (λ bytes. TellsWhichStand c.args.words.now bytes start reported) c.as_bytes.ensures.value
+    c.which_stand.ensures.reported) trees regular is in
+    let len : matched.len ≡ length reported
     = omega (arith, all, c.in_ok-matched.ensures.len, c.len.ensures.same, matched.ok) in
-    let same = ap (λ n. take n (told ++ drop (length told) matched.items)) len
-    ∙ take-append_seam told (drop (length told) matched.items) in
+    let same = ap (λ n. take n (reported ++ drop (length reported) matched.items)) len
+    ∙ take-append_seam reported (drop (length reported) matched.items) in
     subst (λ list. TellsWhich trees (chars haystack) (search_start haystack start) list)
     (sym same)
     (at_position trees list is haystack start c.requires.boundary.0
-    (λ s. TellsWhich trees (chars haystack) s told) found)
+    (λ s. TellsWhich trees (chars haystack) s reported) found)

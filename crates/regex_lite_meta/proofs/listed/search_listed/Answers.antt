@@ -6,7 +6,7 @@ use Rattle.regex_lite_engine.proofs.Common.{IsNumberedOutcome, IsEntry, search_s
 use Rattle.regex_lite_engine.specs.Graph.SideBySide.{AreRegularPatterns}
 use Rattle.regex_lite_engine.specs.Graph.StoredList.{IsGraphOfList}
 use Rattle.regex_lite_engine.specs.Search.NumberedAnswer.{IsNumberedAnswer}
-use Rattle.regex_lite_engine.specs.Search.NumberedOutcomes.{match_told}
+use Rattle.regex_lite_engine.specs.Search.NumberedOutcomes.{match_reported}
 use Rattle.regex_lite_engine.specs.Search.Outcomes.{IsOutcome}
 use Rattle.regex_lite_engine.specs.declared.search.outcome.Outcome.{Outcome}
 use Rattle.regex_lite_engine.proofs.laws.search.NumberedAnswerLemmas.{answer_of_part}
@@ -40,12 +40,12 @@ module _ (trees : List Tree) (regular : AreRegularPatterns trees) (list : Stored
       (slice_index list.entries number) at)
       (regular number tree there) (position_at bytes start) found numbered)
 
-  listed_told : (outcome : Option Outcome)
+  listed_reported : (outcome : Option Outcome)
       → IsNumberedOutcome (table_of_list list) (chars bytes) (slice_index list.entries number)
-      (position_at bytes start) (match_told outcome)
+      (position_at bytes start) (match_reported outcome)
       → IsOutcome tree bytes start outcome
-  listed_told None none = answer None none
-  listed_told (Some outcome) (found, numbered, from, to, held) = (
+  listed_reported None none = answer None none
+  listed_reported (Some outcome) (found, numbered, from, to, held) = (
     found,
     answer (Some found) numbered,
     record { start = from; end = to; slots = held },
@@ -57,6 +57,6 @@ search_one-requires-clause-boundary c = on_boundary _ _ c.requires.start c.if-st
 pub returns-clause-found : goal.returns-clause-found
 returns-clause-found c = λ trees tree regular is there.
     let own = c.pattern-pattern.ensures in
-    listed_told trees regular c.args.list.now is c.args.number tree there c.requires.number
+    listed_reported trees regular c.args.list.now is c.args.number tree there c.requires.number
     c.args.haystack.now c.args.start c.if-start-haystack.false c.in_ok-found.found
     (rw (own.table, own.entry) at c.in_ok-found.ensures.found)

@@ -2,7 +2,7 @@ use Rattle.regex_lite_meta.proofs.Common.{arith}
 use Rattle.std.proofs.lemmas.Grind.{common_steps}
 use Rattle.std.proofs.lemmas.Result.{IfOk-weaker}
 use Rattle.regex_lite_engine.proofs.nfa.BoundaryLemmas.{on_boundary}
-use Rattle.regex_lite_engine.proofs.search.OutcomeLemmas.{answer_told, cost_told}
+use Rattle.regex_lite_engine.proofs.search.OutcomeLemmas.{answer_reported, cost_reported}
 use Rattle.regex_lite_meta.proofs.once.search.Goals as goal
 
 -- It has an answer because the prover would try other calls first, which takes long
@@ -18,14 +18,15 @@ returns c =
     let haystack = c.args.haystack.now in
     let start = c.args.start in
     let inside = c.if-start-haystack.false in
-    let told = rw (c.pattern-pattern.ensures.table, c.pattern-pattern.ensures.entry) at
+    let reported = rw (c.pattern-pattern.ensures.table, c.pattern-pattern.ensures.entry) at
     c.search_one.ensures in record {
       found = IfOk-weaker c.search_one.result _ _
-          (λ told is tree regular of_tree.
-          answer_told tree regular graph of_tree haystack start inside told.0 is.found) told;
-      slots = IfOk-weaker c.search_one.result _ _ (λ told is. is.slots) told;
+          (λ reported is tree regular of_tree.
+          answer_reported tree regular graph of_tree haystack start inside reported.0 is.found)
+          reported;
+      slots = IfOk-weaker c.search_one.result _ _ (λ reported is. is.slots) reported;
       cost = IfOk-weaker c.search_one.result _ _
-          (λ told is tree of_tree. cost_told tree graph of_tree haystack start inside
-          told.1.tried told.1.entered told.1.looked is.cost) told;
-      entered = IfOk-weaker c.search_one.result _ _ (λ told is. is.entered) told;
+          (λ reported is tree of_tree. cost_reported tree graph of_tree haystack start inside
+          reported.1.tried reported.1.entered reported.1.looked is.cost) reported;
+      entered = IfOk-weaker c.search_one.result _ _ (λ reported is. is.entered) reported;
     }

@@ -1,6 +1,6 @@
 use Rattle.std.proofs.lemmas.Result.{IfOk-weaker}
 use Rattle.regex_lite_engine.proofs.nfa.BoundaryLemmas.{on_boundary}
-use Rattle.regex_lite_engine.proofs.search.OutcomeLemmas.{cost_told}
+use Rattle.regex_lite_engine.proofs.search.OutcomeLemmas.{cost_reported}
 use Rattle.regex_lite_meta.proofs.AnyLemmas.{any_of_tree}
 use Rattle.regex_lite_meta.proofs.once.search_any.Goals as goal
 
@@ -13,13 +13,14 @@ returns c =
     let haystack = c.args.haystack.now in
     let start = c.args.start in
     let inside = c.if-start-haystack.false in
-    let told = rw (c.pattern-pattern.ensures.table, c.pattern-pattern.ensures.entry) at
+    let reported = rw (c.pattern-pattern.ensures.table, c.pattern-pattern.ensures.entry) at
     c.search_any_one.ensures in record {
       found = IfOk-weaker c.search_any_one.result _ _
-          (λ told is tree regular of_tree.
-          any_of_tree tree regular graph of_tree haystack start inside told.0 is.found) told;
+          (λ reported is tree regular of_tree.
+          any_of_tree tree regular graph of_tree haystack start inside reported.0 is.found)
+          reported;
       cost = IfOk-weaker c.search_any_one.result _ _
-          (λ told is tree of_tree. cost_told tree graph of_tree haystack start inside
-          told.1.tried told.1.entered told.1.looked is.cost) told;
-      entered = IfOk-weaker c.search_any_one.result _ _ (λ told is. is.entered) told;
+          (λ reported is tree of_tree. cost_reported tree graph of_tree haystack start inside
+          reported.1.tried reported.1.entered reported.1.looked is.cost) reported;
+      entered = IfOk-weaker c.search_any_one.result _ _ (λ reported is. is.entered) reported;
     }

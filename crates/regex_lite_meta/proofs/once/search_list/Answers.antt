@@ -1,5 +1,5 @@
 use Rattle.regex_lite_meta.proofs.Common.{chars, places_of, position_at}
-use Rattle.regex_lite_engine.proofs.search.ListOutcomeLemmas.{cost_of_list, outcome_told}
+use Rattle.regex_lite_engine.proofs.search.ListOutcomeLemmas.{cost_of_list, outcome_reported}
 use Rattle.regex_lite_meta.proofs.OneLemmas.{outcome_of_one}
 use Rattle.regex_lite_meta.proofs.once.search_list.Goals as goal
 
@@ -9,7 +9,7 @@ returns-in-Some-clause-found c = λ trees regular is.
     let haystack = c.args.haystack.now in
     let one = c.in-Some.pattern in
     let alone = c.in-Some.ensures in
-    outcome_told trees list is haystack c.args.start c.if-start-haystack.false regular
+    outcome_reported trees list is haystack c.args.start c.if-start-haystack.false regular
     c.first_of_list.result
     (rw (c.first_of_list.ensures, alone.entry, ← alone.table)
     (outcome_of_one (places_of one.table.now) (chars haystack) one.entry

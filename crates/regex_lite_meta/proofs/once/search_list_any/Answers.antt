@@ -14,15 +14,15 @@ returns-in-Some c =
     let start = c.args.start in
     let inside = c.if-start-haystack.false in
     let alone = c.in-Some.ensures in
-    let told = c.search_any_one.ensures in record {
+    let reported = c.search_any_one.ensures in record {
       found = IfOk-weaker c.search_any_one.result _ _
-          (λ told is trees regular of_list.
-          any_of_trees trees list of_list haystack start inside regular told.0
-          (rw (alone.entry, ← alone.table) is.found)) told;
+          (λ reported is trees regular of_list.
+          any_of_trees trees list of_list haystack start inside regular reported.0
+          (rw (alone.entry, ← alone.table) is.found)) reported;
       cost = IfOk-weaker c.search_any_one.result _ _
-          (λ told is trees of_list. cost_of_list trees list of_list haystack start inside told.1
-          (rw (alone.entry, ← alone.table) is.cost)) told;
-      entered = IfOk-weaker c.search_any_one.result _ _ (λ told is. is.entered) told;
+          (λ reported is trees of_list. cost_of_list trees list of_list haystack start inside
+          reported.1 (rw (alone.entry, ← alone.table) is.cost)) reported;
+      entered = IfOk-weaker c.search_any_one.result _ _ (λ reported is. is.entered) reported;
     }
 
 pub returns-in-Some-search_words-clause-found : goal.returns-in-Some-search_words-clause-found

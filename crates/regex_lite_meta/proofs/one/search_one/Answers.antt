@@ -10,11 +10,11 @@ returns-in-Some-search_start c =
     let one = c.args.pattern.now in
     let table = places_of one.table.now in
     let haystack = c.args.haystack.now in
-    let told = c.search_remembering.result in
+    let reported = c.search_by_dfa.result in
     let first = c.in-Some-search_start.first in
-    subst (λ slots. IfOk told (TellsOfOne table one.entry haystack c.args.start slots))
+    subst (λ slots. IfOk reported (TellsOfOne table one.entry haystack c.args.start slots))
     (sym (c.choose.ensures.slots c.in-LazyDfa.is))
-    (IfOk-weaker told (TellsOfOne table one.entry haystack first 0)
+    (IfOk-weaker reported (TellsOfOne table one.entry haystack first 0)
     (TellsOfOne table one.entry haystack c.args.start 0)
-    (λ told. found_from_later table haystack one.entry c.args.start first 0 told
-    c.in-Some-search_start.ensures.least) c.search_remembering.ensures)
+    (λ reported. found_from_later table haystack one.entry c.args.start first 0 reported
+    c.in-Some-search_start.ensures.least) c.search_by_dfa.ensures)

@@ -3,7 +3,7 @@ use Rattle.regex_lite_meta.proofs.Common.{places_of, best_of, position_at, arrow
 use Rattle.regex_lite_engine.proofs.search.FirstStartLemmas.{bounded_from, first_boundary}
 use Rattle.regex_lite_engine.proofs.search.FirstStartLemmas.{none_before_first, none_tried}
 use Rattle.regex_lite_engine.proofs.search.OutcomeLemmas.{can_count}
-use Rattle.regex_lite_meta.proofs.EndLemmas.{end_from_later, end_told, none_told}
+use Rattle.regex_lite_meta.proofs.EndLemmas.{end_from_later, end_reported, none_reported}
 use Rattle.regex_lite_engine.specs.Search.OutcomeOfOne.{TellsEndOfOne}
 use Rattle.std.proofs.lemmas.Result.{IfOk-weaker}
 use Rattle.regex_lite_meta.proofs.one.search_shortest_in_graph.Goals as goal
@@ -36,7 +36,7 @@ returns c =
     c.in-Some-first_start.first passes
     in record {
       found = rw c.end.ensures
-          (end_told table haystack one.entry c.args.start c.utf8.haystack
+          (end_reported table haystack one.entry c.args.start c.utf8.haystack
           c.in-Some-first_start.first passes
           (best_of c.run.new.cache.best) c.run.ensures.found);
       cost = bounded_from (length table) (arrows_of table) (chars haystack) s m steps.tried
@@ -51,7 +51,7 @@ returns-in_default-first_start c =
     let haystack = c.args.haystack.now in
     let steps = c.no_steps-in_default-first_start.result in
     let none = c.no_steps-in_default-first_start.ensures in record {
-      found = none_told table haystack one.entry c.args.start
+      found = none_reported table haystack one.entry c.args.start
           (c.first_start.ensures.none c.in_default-first_start.is);
       cost = none_tried (length table) (arrows_of table) (chars haystack)
           (position_at haystack c.args.start) steps.tried steps.entered steps.looked none.tried
@@ -66,7 +66,7 @@ returns-in_default-search_start c =
     let haystack = c.args.haystack.now in
     let steps = c.no_steps.result in
     let none = c.no_steps.ensures in record {
-      found = none_told table haystack one.entry c.args.start
+      found = none_reported table haystack one.entry c.args.start
           (c.search_start.ensures.none c.in_default-search_start.is);
       cost = none_tried (length table) (arrows_of table) (chars haystack)
           (position_at haystack c.args.start) steps.tried steps.entered steps.looked none.tried
@@ -79,8 +79,8 @@ returns-in-LazyDfa c =
     let one = c.args.pattern.now in
     let table = places_of one.table.now in
     let haystack = c.args.haystack.now in
-    IfOk-weaker c.search_shortest_remembering.result
+    IfOk-weaker c.search_shortest_by_dfa.result
     (TellsEndOfOne table one.entry haystack c.in-Some.first)
     (TellsEndOfOne table one.entry haystack c.args.start)
-    (λ told. end_from_later table haystack one.entry c.args.start c.in-Some.first told
-    c.in-Some.ensures.least) c.search_shortest_remembering.ensures
+    (λ reported. end_from_later table haystack one.entry c.args.start c.in-Some.first reported
+    c.in-Some.ensures.least) c.search_shortest_by_dfa.ensures

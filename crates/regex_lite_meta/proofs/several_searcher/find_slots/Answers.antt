@@ -10,11 +10,11 @@ pattern-pattern-requires c =
     number_within (table_of_list list) c.args.haystack.now c.utf8.haystack list.entries known.0
     c.args.found.0 c.args.found.1 known.1
 
-pub find_known-requires-clause-finds : goal.find_known-requires-clause-finds
-find_known-requires-clause-finds c = rw c.pattern-pattern.ensures.table c.requires.finds
+pub find_in_span-requires-clause-finds : goal.find_in_span-requires-clause-finds
+find_in_span-requires-clause-finds c = rw c.pattern-pattern.ensures.table c.requires.finds
 
-pub find_known-requires-clause-known : goal.find_known-requires-clause-known
-find_known-requires-clause-known c =
+pub find_in_span-requires-clause-known : goal.find_in_span-requires-clause-known
+find_in_span-requires-clause-known c =
     let list = c.args.graph.now in
     let known = c.requires.found in
     let own = c.pattern-pattern.ensures in (
@@ -30,12 +30,12 @@ returns-clause-found c = λ s known.
     let table = table_of_list list in
     let haystack = c.args.haystack.now in
     let own = c.pattern-pattern.ensures in
-    let origin = c.args.found.0 in
+    let match_start = c.args.found.0 in
     let end = c.args.found.1 in
-    one_of_list table haystack c.utf8.haystack list.entries s origin end known c.in_ok-span.span
-    c.find_known.new.self.cache.best.row
-    (rw c.in_ok-span.was at ((rw (own.table, own.entry) at c.find_known.ensures.found) s
-    (alone table haystack c.utf8.haystack list.entries s origin end known)))
+    one_of_list table haystack c.utf8.haystack list.entries s match_start end known
+    c.in_ok-span.span c.find_in_span.new.self.cache.best.row
+    (rw c.in_ok-span.was at ((rw (own.table, own.entry) at c.find_in_span.ensures.found) s
+    (alone table haystack c.utf8.haystack list.entries s match_start end known)))
 
 pub returns-in_err-span-clause-found : goal.returns-in_err-span-clause-found
 returns-in_err-span-clause-found c = λ s known.
@@ -43,11 +43,11 @@ returns-in_err-span-clause-found c = λ s known.
     let table = table_of_list list in
     let haystack = c.args.haystack.now in
     let own = c.pattern-pattern.ensures in
-    let origin = c.args.found.0 in
+    let match_start = c.args.found.0 in
     let end = c.args.found.1 in
-    absurd (one_there table haystack c.utf8.haystack list.entries s origin end known
-    (rw c.in_err-span.was at ((rw (own.table, own.entry) at c.find_known.ensures.found) s
-    (alone table haystack c.utf8.haystack list.entries s origin end known))))
+    absurd (one_there table haystack c.utf8.haystack list.entries s match_start end known
+    (rw c.in_err-span.was at ((rw (own.table, own.entry) at c.find_in_span.ensures.found) s
+    (alone table haystack c.utf8.haystack list.entries s match_start end known))))
 
 pub returns-clause-finds : goal.returns-clause-finds
-returns-clause-finds c = rw (← c.pattern-pattern.ensures.table) c.find_known.ensures.finds
+returns-clause-finds c = rw (← c.pattern-pattern.ensures.table) c.find_in_span.ensures.finds

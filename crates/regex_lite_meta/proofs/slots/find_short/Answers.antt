@@ -6,7 +6,7 @@ use Rattle.regex_lite_engine.specs.Pikevm.Machine.{BestState}
 use Rattle.regex_lite_engine.specs.Search.NumberedOutcomes.{IsNumberedOutcome}
 use Rattle.regex_lite_engine.proofs.OffsetLemmas.{boundary_at}
 use Rattle.regex_lite_engine.proofs.laws.search.AlikeLemmas.{seen}
-use Rattle.regex_lite_meta.proofs.lazy_dfa.KnownEndLemmas.{from_boundary, is_end, known_end}
+use Rattle.regex_lite_meta.proofs.lazy_dfa.SpanEndLemmas.{from_boundary, is_end, span_end}
 use Rattle.regex_lite_meta.proofs.slots.find_short.Goals as goal
 
 module _ (table : List (Place ℕ)) (entry : ℕ) (haystack : List ℕ) (span : ℕ × ℕ) (s : ℕ)
@@ -28,11 +28,11 @@ module _ (table : List (Place ℕ)) (entry : ℕ) (haystack : List ℕ) (span : 
     begins_there : IsCharBoundary part span.0
     begins_there = from_boundary table haystack entry s span known part utf8 is_seen
 
-    found_there : (told : ℕ × ℕ) (row : Row) → told.1 ≡ span.1
+    found_there : (reported : ℕ × ℕ) (row : Row) → reported.1 ≡ span.1
         → IsNumberedOutcome table (chars part) entry (position_at part span.0)
-        (best_at (Some told) row)
+        (best_at (Some reported) row)
         → IsNumberedOutcome table (chars haystack) entry s (best_at (Some span) row)
-    found_there = known_end table haystack entry s span known part utf8 is_seen
+    found_there = span_end table haystack entry s span known part utf8 is_seen
 
 pub up_to_next-seen-requires : goal.up_to_next-seen-requires
 up_to_next-seen-requires c =
@@ -48,7 +48,7 @@ search-requires-clause-boundary c =
     c.requires.known.0 c.requires.known.1 next.result.now next.utf8 next.ensures
 
 pub returns-clause-found : goal.returns-clause-found
-returns-clause-found c = λ told s known.
+returns-clause-found c = λ reported s known.
     let a = c.args in
     let table = places_of a.pattern.now.table.now in
     let next = c.up_to_next-seen in

@@ -9,13 +9,13 @@ use Rattle.regex_lite_meta.proofs.slots.short_for.Goals as goal
 -- what is true of the searcher is true of it in its box
 module _ (P : ShortSearcher → Type 0) (short : ShortSearcher) (holds : P short) where
   abbrev InBox : Option (Box ShortSearcher Global) → Type 0
-  InBox told = IfSome told (λ boxed. P boxed.value)
+  InBox reported = IfSome reported (λ boxed. P boxed.value)
 
   in_box : {E : Type 0} (made : Result (Box ShortSearcher Global) E)
-      → IfOk made (λ boxed. boxed.value ≡ short) → (told : Option (Box ShortSearcher Global))
-      → told ≡ result_ok made → InBox told
-  in_box (Ok boxed) is told same = subst InBox (sym same) (subst P (sym is) holds)
-  in_box (Err error) is told same = subst InBox (sym same) tt
+      → IfOk made (λ boxed. boxed.value ≡ short) → (reported : Option (Box ShortSearcher Global))
+      → reported ≡ result_ok made → InBox reported
+  in_box (Ok boxed) is reported same = subst InBox (sym same) (subst P (sym is) holds)
+  in_box (Err error) is reported same = subst InBox (sym same) tt
 
 pub returns-in-Ok-Some : goal.returns-in-Ok-Some
 returns-in-Ok-Some c =

@@ -3,7 +3,7 @@ use Rattle.regex_lite_syntax.proofs.Common.{◌≡◌, ℕ, ◌+◌, ◌<◌, �
 use Rattle.regex_lite_syntax.proofs.Common.{IsTrue, codes, refl, subst, append_assoc, arith, rules}
 use Rattle.regex_lite_syntax.proofs.Common.{and_parts, nat_tests, is_character, is_hex_digit}
 use Rattle.regex_lite_syntax.proofs.Common.{FixedDigits, BracedDigits, Hexadecimal, braced, Gap}
-use Rattle.regex_lite_syntax.proofs.Common.{number_on, Reaches, Completable, Text, the}
+use Rattle.regex_lite_syntax.proofs.Common.{number_on, ReachesNumber, Completable, Text, the}
 use Rattle.regex_lite_syntax.proofs.grammar.CompletedGapLemmas.{spaced_on, gap_completed}
 use Rattle.regex_lite_syntax.proofs.grammar.CompletedGapLemmas.{spaced_together}
 use Rattle.regex_lite_syntax.proofs.grammar.CompletedGapLemmas.{spaced_are}
@@ -14,7 +14,7 @@ use Rattle.regex_lite_syntax.proofs.grammar.WordLemmas.{all_characters}
 use Rattle.regex_lite_syntax.proofs.CharacterLemmas.{joined_are}
 
 on_reaches : {verbose : Bool} {number : ℕ} {digits t last : Text} {c : ℕ} (least : ℕ)
-    → DigitsOn verbose number digits t last c → least ≤ c → Reaches number least digits
+    → DigitsOn verbose number digits t last c → least ≤ c → ReachesNumber number least digits
 on_reaches {verbose} {number} {digits} {t} {last} {c} least on far = record {
   are_digits = spaced_are verbose is_hex_digit digits t last on.written;
   scalar = on.scalar;
@@ -24,20 +24,20 @@ on_reaches {verbose} {number} {digits} {t} {last} {c} least on far = record {
 -- where no digits of this number reach that far, no reading comes to stand
 pub fixed_short : {verbose : Bool} {number read n : ℕ} {t rest : Text} {c : ℕ} (least left : ℕ)
     → left + read ≡ n
-    → ((further : Text) → length further ≡ left → Reaches number least further → ⊥)
+    → ((further : Text) → length further ≡ left → ReachesNumber number least further → ⊥)
     → FixedFrom verbose number read n t rest c → least ≤ c → ⊥
 fixed_short {verbose} {number} {read} {n} {t} {rest} {c} least left count none f far =
     none f.digits (omega (arith, count, f.count)) (on_reaches least f.on far)
 
 pub braced_short : {verbose : Bool} {number read : ℕ} {t rest : Text} {c : ℕ} (least : ℕ)
-    → ((further : Text) → Reaches number least further → ⊥)
+    → ((further : Text) → ReachesNumber number least further → ⊥)
     → BracedFrom verbose number read t rest c → least ≤ c → ⊥
 braced_short {verbose} {number} {read} {t} {rest} {c} least none b far =
     none b.digits (on_reaches least b.on far)
 
 -- the digits that reach it complete the number
 pub fixed_completed : (verbose : Bool) (number read n least left : ℕ) (t further next : Text)
-    → left + read ≡ n → read < n → Gap verbose t [] → Reaches number least further
+    → left + read ≡ n → read < n → Gap verbose t [] → ReachesNumber number least further
     → length further ≡ left
     → FixedFrom verbose number read n (t ++ ((resumed verbose ++ further) ++ next)) next
     (number_on number further)
@@ -65,7 +65,7 @@ abbrev pub closed : Text → Text
 closed further = further ++ the "}" ∷ []
 
 pub braced_completed : (verbose : Bool) (number read least : ℕ) (t further next : Text)
-    → (0 < number → 0 < read) → Gap verbose t [] → Reaches number least further
+    → (0 < number → 0 < read) → Gap verbose t [] → ReachesNumber number least further
     → 0 < number + length further
     → BracedFrom verbose number read (t ++ ((resumed verbose ++ closed further) ++ next)) next
     (number_on number further)
@@ -93,7 +93,7 @@ pub fixed_completable : {verbose : Bool} {number read n : ℕ} (least left : ℕ
     → left + read ≡ n → read < n → Gap verbose t []
     → ((more rest : Text) (c : ℕ) → FixedFrom verbose number read n (t ++ more) rest c
     → FixedDigits verbose n (start ++ more) rest c)
-    → (further : Text) × Reaches number least further × (length further ≡ left)
+    → (further : Text) × ReachesNumber number least further × (length further ≡ left)
     → Completable (λ u rest. (c : ℕ) × FixedDigits verbose n u rest c × (least ≤ c)) start
 fixed_completable {verbose} {number} {read} {n} least left t start count some gap goes
     (further, reaches, all) = record {
@@ -113,7 +113,7 @@ pub braced_completable : {verbose : Bool} {number read : ℕ} (least : ℕ) (t s
     → (0 < number → 0 < read) → Gap verbose t []
     → ((more rest : Text) (c : ℕ) → BracedFrom verbose number read (t ++ more) rest c
     → BracedDigits verbose (start ++ more) rest c)
-    → (further : Text) × Reaches number least further × (0 < number + length further)
+    → (further : Text) × ReachesNumber number least further × (0 < number + length further)
     → Completable (λ u rest. (c : ℕ) × BracedDigits verbose u rest c × (least ≤ c)) start
 braced_completable {verbose} {number} {read} least t start before gap goes
     (further, reaches, some) = record {

@@ -5,7 +5,7 @@ use Rattle.regex_lite_syntax.proofs.Common.{IsTrue, nat_lt, ◌==◌, codes, sym
 use Rattle.regex_lite_syntax.proofs.Common.{arith, length-append, and_from, and_parts, eqb-true}
 use Rattle.regex_lite_syntax.proofs.Common.{nat_tests, list_all-append, fold-append, list_all}
 use Rattle.regex_lite_syntax.proofs.Common.{is_character, is_hex_digit, digit_value, number_on}
-use Rattle.regex_lite_syntax.proofs.Common.{Reaches, Text}
+use Rattle.regex_lite_syntax.proofs.Common.{ReachesNumber, Text}
 use Rattle.std.proofs.lemmas.Bool.{agree_below_at}
 use Rattle.regex_lite_syntax.proofs.parse.escape.DigitLemmas.{on_grows, character_below}
 
@@ -92,7 +92,7 @@ made (suc k) number c low high =
 pub reached : (k number least low high last : ℕ) → low ≡ min (lowest k number) 0x110000
     → high ≡ min (highest k number) 0x10FFFF → IsTrue (is_character last) → last ≤ high
     → least ≤ last → low ≤ last
-    → (further : Text) × Reaches number least further × (length further ≡ k)
+    → (further : Text) × ReachesNumber number least further × (length further ≡ k)
 reached k number least low high last first end scalar inside far from =
     let digits = made k number last (omega arith) (omega arith) in (
       digits.0,
@@ -109,7 +109,7 @@ pub unreached : (k number least low high last : ℕ) → low ≡ min (lowest k n
     → high ≡ min (highest k number) 0x10FFFF
     → ((c : ℕ) → IsTrue (is_character c) → c ≤ high → c ≤ last)
     → ((c : ℕ) → low ≤ c → least ≤ c → c ≤ last → ⊥)
-    → (further : Text) → length further ≡ k → Reaches number least further → ⊥
+    → (further : Text) → length further ≡ k → ReachesNumber number least further → ⊥
 unreached k number least low high last first end is_last none further count reaches =
     let bounds = within k number further count reaches.are_digits in
     let c = number_on number further in
@@ -129,7 +129,7 @@ with_more (suc k) number (d ∷ digits) many =
 
 -- with six further digits every number but 0 is too large
 pub six_too_many : (number least : ℕ) (further : Text) → 0 < number → 6 ≤ length further
-    → Reaches number least further → ⊥
+    → ReachesNumber number least further → ⊥
 six_too_many number least further some many reaches =
     let grown : number * 16 * 16 * 16 * 16 * 16 * 16 ≤ number_on number further =
     with_more 6 number further many in
@@ -137,7 +137,8 @@ six_too_many number least further some many reaches =
 
 -- after 0 the digits of the last character may follow
 pub last_reached : (number least : ℕ) → number ≡ 0 → least ≤ 0x10FFFF
-    → (further : Text) × Reaches number least further × (0 < number + length further)
+    → (further : Text) × ReachesNumber number least further × (0 < number + length further)
 last_reached number least none inside =
-    subst (λ n. (further : Text) × Reaches n least further × (0 < n + length further)) (sym none)
+    subst (λ n. (further : Text) × ReachesNumber n least further × (0 < n + length further))
+    (sym none)
     (codes "10FFFF", record { are_digits = refl; scalar = refl; far = inside }, omega arith)

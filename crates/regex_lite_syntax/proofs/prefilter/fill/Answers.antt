@@ -12,15 +12,15 @@ loop-row-preserved c =
     let row = c.loop-row.row in
     elim c.if-begins_in_row.branch [
       | then-begins_in_row+in-Some w ↦
-          let told = w.in-Some.ensures in record {
-            same = ap length w.bytes-is ∙ told.length ∙ v.same;
+          let reported = w.in-Some.ensures in record {
+            same = ap length w.bytes-is ∙ reported.length ∙ v.same;
             room =
                 subst (λ n. n ≤ length c.if-begins_in_row.bytes) (sym w.len-is)
-                (subst (λ bytes. w.in-Some.more ≤ length bytes) (sym w.bytes-is) told.room);
+                (subst (λ bytes. w.in-Some.more ≤ length bytes) (sym w.bytes-is) reported.room);
             written = λ byte low stops.
                 subst (λ bytes. StandsBelow bytes c.if-begins_in_row.len byte) (sym w.bytes-is)
                 (subst (λ n. StandsBelow w.fill_row.new.bytes n byte) (sym w.len-is)
-                (told.written byte (omega (arith, low)) stops));
+                (reported.written byte (omega (arith, low)) stops));
           }
       | else-begins_in_row w ↦ record {
         same = ap length w.bytes-is ∙ v.same;

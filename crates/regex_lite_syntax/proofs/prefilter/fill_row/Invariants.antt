@@ -1,5 +1,5 @@
 use Rattle.regex_lite_syntax.proofs.Common.{◌≡◌, ℕ, ◌<◌, ◌≤◌, true, length, StandsBelow}
-use Rattle.regex_lite_syntax.specs.Prefilter.Starts.{stops_at}
+use Rattle.regex_lite_syntax.specs.Prefilter.FirstSet.{stops_at}
 use Rattle.regex_lite_syntax.proofs.prefilter.fill_row.Given as goal
 
 abbrev pub invariant-loop-code : goal.invariant-loop-code

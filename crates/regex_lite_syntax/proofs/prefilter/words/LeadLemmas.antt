@@ -3,7 +3,7 @@ use Rattle.regex_lite_syntax.proofs.Common.{◌≡◌, ℕ, zero, suc, ◌+◌, 
 use Rattle.regex_lite_syntax.proofs.Common.{[], ◌∷◌, ◌++◌, length, drop, Text, inl, inr}
 use Rattle.regex_lite_syntax.proofs.Common.{sym, refl, ap, ◌∙◌, subst, arith, true, false, Some}
 use Rattle.regex_lite_syntax.proofs.Common.{None, Letter, length-drop}
-use Rattle.regex_lite_syntax.proofs.Common.{slice_get, slice_index, Starts, begins_with, cases_lt}
+use Rattle.regex_lite_syntax.proofs.Common.{slice_get, slice_index, FirstSet, begins_with, cases_lt}
 use Rattle.std.specs.Char.{encode_utf8}
 use Rattle.std.proofs.Common.{encode_utf8_all}
 use Rattle.std.proofs.Math.ListN.{get_or-append}
@@ -14,10 +14,10 @@ use Rattle.std.proofs.lemmas.List.{drop-drop}
 use Rattle.std.proofs.lemmas.Str.{encode_ascii, len_utf8_bounds, length-encode}
 use Rattle.regex_lite_syntax.specs.Prefilter.Needed.{IsNextReach, NeededWords, Reaches}
 use Rattle.regex_lite_syntax.specs.Prefilter.NeededWalk.{AreAmong}
-use Rattle.regex_lite_syntax.specs.Prefilter.Starts.{AreBetween}
+use Rattle.regex_lite_syntax.specs.Prefilter.FirstSet.{AreBetween}
 use Rattle.regex_lite_syntax.specs.Prefilter.Words.{AnyStandsAt, NoneStands}
 use Rattle.std.proofs.lemmas.Bool.{true≢false}
-use Rattle.regex_lite_syntax.proofs.prefilter.starts.StartLemmas.{begins_as_one}
+use Rattle.regex_lite_syntax.proofs.prefilter.first_set.StartLemmas.{begins_as_one}
 use Rattle.regex_lite_syntax.proofs.prefilter.words.NextLemmas.{only_stands}
 use Rattle.regex_lite_syntax.proofs.prefilter.words.StandLemmas.{start_length}
 
@@ -52,7 +52,7 @@ high_at (byte ∷ bytes) zero high lt = high.0
 high_at (byte ∷ bytes) (suc k) high lt = high_at bytes k high.1 (omega (arith, lt))
 
 -- the bytes of a character are among those among which the character is
-pub byte_among : (s : Starts) (c : ℕ) → begins_with s c ≡ true
+pub byte_among : (s : FirstSet) (c : ℕ) → begins_with s c ≡ true
     → AreAmong s (encode_utf8 c) (length (encode_utf8 c))
 byte_among s c own k lt = elim (cases_lt c 128) [
   | inl ascii ↦
@@ -66,7 +66,7 @@ byte_among s c own k lt = elim (cases_lt c 128) [
 ]
 
 -- a character is among those among which its bytes are
-pub char_among : (s : Starts) (c : ℕ) → AreAmong s (encode_utf8 c) (length (encode_utf8 c))
+pub char_among : (s : FirstSet) (c : ℕ) → AreAmong s (encode_utf8 c) (length (encode_utf8 c))
     → begins_with s c ≡ true
 char_among s c among = elim (cases_lt c 128) [
   | inl ascii ↦
@@ -80,7 +80,7 @@ char_among s c among = elim (cases_lt c 128) [
     some = omega (arith, length-encode c, (len_utf8_bounds c).0)
 
 -- the bytes of the first characters, as many as that, and those after them
-bytes_after : (s : Starts) (n : ℕ) (text : Text) → AreBetween s text 0 n
+bytes_after : (s : FirstSet) (n : ℕ) (text : Text) → AreBetween s text 0 n
     → (m : ℕ) × (encode_utf8_all (drop n text) ≡ drop m (encode_utf8_all text))
     × AreAmong s (encode_utf8_all text) m
 bytes_after s zero text all = (0, refl, λ k lt. absurd (omega (arith, lt)))
@@ -110,7 +110,7 @@ get_after (suc i) k (c ∷ h) =
     get_after i k h ∙ ap (slice_get (c ∷ h)) same
 
 -- those from a later position on are among those from an earlier one on
-pub bytes_later : (s : Starts) (h : Text) (i j : ℕ) → i ≤ j → AreBetween s h i j
+pub bytes_later : (s : FirstSet) (h : Text) (i j : ℕ) → i ≤ j → AreBetween s h i j
     → (m : ℕ) × (encode_utf8_all (drop j h) ≡ drop m (encode_utf8_all (drop i h)))
     × AreAmong s (encode_utf8_all (drop i h)) m
 bytes_later s h i j le all =

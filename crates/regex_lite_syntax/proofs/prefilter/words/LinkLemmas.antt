@@ -2,21 +2,21 @@
 use Rattle.regex_lite_syntax.proofs.Common.{◌≡◌, ℕ, zero, suc, ◌+◌, ◌-◌, ◌<◌, ◌≤◌, ◌⊎◌, List}
 use Rattle.regex_lite_syntax.proofs.Common.{length, slice_index, slice_set, sym, ap, ◌∙◌, subst}
 use Rattle.regex_lite_syntax.proofs.Common.{inl, inr, arith, cases_eq, get_or-set_other, Letter}
-use Rattle.regex_lite_syntax.proofs.Common.{get_or-set_same, IsReached, StartsWith, word_at}
+use Rattle.regex_lite_syntax.proofs.Common.{get_or-set_same, IsLinked, StartsWith, word_at}
 use Rattle.std.proofs.Common.{length-set, slice_index_or}
-use Rattle.regex_lite_syntax.specs.Prefilter.Leaps.{AreLinks, LeadsToAllAt, bucket_of, here}
-use Rattle.regex_lite_syntax.specs.Prefilter.Leaps.{further}
+use Rattle.regex_lite_syntax.specs.Prefilter.Shifts.{AreLinks, LeadsToAllAt, bucket_of, here}
+use Rattle.regex_lite_syntax.specs.Prefilter.Shifts.{further}
 use Rattle.regex_lite_syntax.specs.Prefilter.Words.{WordStandsAt}
 use Rattle.std.proofs.lemmas.List.{get_or_default}
 
 -- no word is reached from 0
-pub from_some : (next : List ℕ) (number link : ℕ) → IsReached next number link → 0 < link
+pub from_some : (next : List ℕ) (number link : ℕ) → IsLinked next number link → 0 < link
 from_some next number link (here is) = omega (arith, is)
 from_some next number link (further some order on) = some
 
 -- a word is still reached from the next link, unless it is that of this one
 pub still_reached : (next : List ℕ) (number link : ℕ) → ¬ (link ≡ number + 1)
-    → IsReached next number link → IsReached next number (slice_index next (link - 1))
+    → IsLinked next number link → IsLinked next number (slice_index next (link - 1))
 still_reached next number link apart (here is) = absurd (apart is)
 still_reached next number link apart (further some order on) = on
 
@@ -42,7 +42,7 @@ leads_on words first next bytes at hashed links link some leads after read never
           let apart : link ≡ number + 1 → ⊥ = λ same.
           let here : number ≡ link - 1 = omega (arith, same) in
           never (subst (λ n. WordStandsAt words bytes n at) here stands) in
-          subst (IsReached next number) (sym is)
+          subst (IsLinked next number) (sym is)
           (still_reached next number link apart (leads.reached number below stands));
     }
 
@@ -65,13 +65,13 @@ Rise next = (number : ℕ) → (slice_index next number ≡ 0) ⊎ (number + 1 <
 
 -- a word that is reached from a link past an earlier word is so whatever that word's link becomes
 pub reached_past : (next : List ℕ) (number link : ℕ) (earlier to : ℕ) → Rise next
-    → earlier + 1 < link → IsReached next number link
-    → IsReached (slice_set next earlier to) number link
+    → earlier + 1 < link → IsLinked next number link
+    → IsLinked (slice_set next earlier to) number link
 reached_past next number link earlier to rise past (here is) = here is
 reached_past next number link earlier to rise past (further some order on) =
     let apart : ¬ (link - 1 ≡ earlier) = λ same. omega (arith, same, past) in
     further some order
-    (subst (IsReached (slice_set next earlier to) number)
+    (subst (IsLinked (slice_set next earlier to) number)
     (sym (get_or-set_other next earlier (link - 1) to 0 apart))
     (reached_past next number (slice_index next (link - 1)) earlier to rise
     (later (rise (link - 1)) (from_some next number _ on)) on))
@@ -91,7 +91,7 @@ pub record AreLinkedFrom (words : List (List Letter)) (hashed left : ℕ) (first
   pub rise : Rise next
   pub reached : (number : ℕ) (bytes : List ℕ) → left ≤ number → number < length words
       → StartsWith (word_at words number) bytes
-      → IsReached next number (slice_index first (bucket_of hashed (length first) bytes))
+      → IsLinked next number (slice_index first (bucket_of hashed (length first) bytes))
 
 -- with the word before them they are linked once it comes first in its bucket
 module _ (words : List (List Letter)) (hashed left number : ℕ) (first next : List ℕ) (bucket : ℕ)
@@ -182,8 +182,8 @@ module _ (words : List (List Letter)) (hashed left number : ℕ) (first next : L
   ]
 
   -- a word that was reached from the first link of a bucket is still reached from that link
-  still_from_first : (other from : ℕ) → IsReached next other (slice_index first from)
-      → IsReached nexts other (slice_index first from)
+  still_from_first : (other from : ℕ) → IsLinked next other (slice_index first from)
+      → IsLinked nexts other (slice_index first from)
   unfolding nexts
   still_from_first other from reached =
       reached_past next other (slice_index first from) number (slice_index first bucket) linked.rise
@@ -195,8 +195,8 @@ module _ (words : List (List Letter)) (hashed left number : ℕ) (first next : L
       reached
 
   -- and from the first link that is in its place now
-  reached_at : (other from : ℕ) → left ≤ other → IsReached next other (slice_index first from)
-      → IsReached nexts other (slice_index firsts from)
+  reached_at : (other from : ℕ) → left ≤ other → IsLinked next other (slice_index first from)
+      → IsLinked nexts other (slice_index firsts from)
   reached_at other from low reached = elim (cases_eq from bucket) [
     | inl same ↦
         let at_first : slice_index firsts from ≡ left =
@@ -204,20 +204,20 @@ module _ (words : List (List Letter)) (hashed left number : ℕ) (first next : L
         let last : left - 1 ≡ number = omega (arith, before) in
         let on : slice_index nexts (left - 1) ≡ slice_index first bucket =
         ap (slice_index nexts) last ∙ next_here in
-        subst (IsReached nexts other) (sym at_first)
+        subst (IsLinked nexts other) (sym at_first)
         (further (omega (arith, before)) low
-        (subst (IsReached nexts other) (sym on)
+        (subst (IsLinked nexts other) (sym on)
         (still_from_first other bucket
-        (subst (λ b. IsReached next other (slice_index first b)) same reached))))
+        (subst (λ b. IsLinked next other (slice_index first b)) same reached))))
     | inr apart ↦
-        subst (IsReached nexts other) (sym (first_there from apart))
+        subst (IsLinked nexts other) (sym (first_there from apart))
         (still_from_first other from reached)
   ]
 
   -- so each word is reached, and the new one first
   reached_more : (other : ℕ) (bytes : List ℕ) → number ≤ other → other < length words
       → StartsWith (word_at words other) bytes
-      → IsReached nexts other (slice_index firsts (bucket_of hashed (length first) bytes))
+      → IsLinked nexts other (slice_index firsts (bucket_of hashed (length first) bytes))
   reached_more other bytes low inside starts = elim (cases_eq other number) [
     | inl same ↦
         let own_bucket = own bytes (subst (λ m. StartsWith (word_at words m) bytes) same starts) in
@@ -238,6 +238,6 @@ module _ (words : List (List Letter)) (hashed left number : ℕ) (first next : L
     past = past_more;
     rise = rise_more;
     reached = λ other bytes low inside starts.
-        subst (λ n. IsReached nexts other (slice_index firsts (bucket_of hashed n bytes)))
+        subst (λ n. IsLinked nexts other (slice_index firsts (bucket_of hashed n bytes)))
         (sym (length-set first bucket left)) (reached_more other bytes low inside starts);
   }

@@ -2,7 +2,7 @@
 use Rattle.regex_lite_syntax.proofs.Common.{◌≡◌, ℕ, ◌+◌, ◌-◌, ◌∙◌, List, [], ◌++◌, length}
 use Rattle.regex_lite_syntax.proofs.Common.{drop, sym, ap, subst, arith, true, inl, inr, cases_lt}
 use Rattle.regex_lite_syntax.proofs.Common.{Bool, false, refl, ◌||◌, ◌∷◌, zero, suc}
-use Rattle.regex_lite_syntax.proofs.Common.{Tree, Trees, more, Letter, Starts, begins_with}
+use Rattle.regex_lite_syntax.proofs.Common.{Tree, Trees, more, Letter, FirstSet, begins_with}
 use Rattle.regex_lite_syntax.proofs.Common.{slice_index, get_or-drop, length-append, StartsWith}
 use Rattle.std.proofs.Common.{encode_utf8_all}
 use Rattle.std.proofs.Math.ListN.{get_or-append}
@@ -15,11 +15,11 @@ use Rattle.regex_lite_syntax.specs.declared.prefilter.words.needed_walk.NeededWa
 use Rattle.regex_lite_syntax.specs.Prefilter.Needed.{AreNeededByEach, IsNeededBy, NeededWords}
 use Rattle.regex_lite_syntax.specs.Prefilter.Needed.{Reaches}
 use Rattle.regex_lite_syntax.specs.Prefilter.NeededWalk.{as_needed, HasFound, ReachesToo}
-use Rattle.regex_lite_syntax.specs.Prefilter.Starts.{IsUnion}
+use Rattle.regex_lite_syntax.specs.Prefilter.FirstSet.{IsUnion}
 use Rattle.regex_lite_syntax.specs.Prefilter.Words.{word_at}
 
 -- the characters of one set are also in the other
-abbrev pub IsAmong : (starts more : Starts) → Type 0
+abbrev pub IsAmong : (starts more : FirstSet) → Type 0
 IsAmong starts wider = (c : ℕ) → begins_with starts c ≡ true → begins_with wider c ≡ true
 
 or_second : (a b : Bool) → b ≡ true → (a || b) ≡ true
@@ -27,16 +27,16 @@ or_second true b is = refl
 or_second false b is = is
 
 -- those of two sets are among those of both
-pub among_first : (first second both : Starts) → IsUnion first second both → IsAmong first both
+pub among_first : (first second both : FirstSet) → IsUnion first second both → IsAmong first both
 among_first first second both union c is =
     union.with c ∙ ap (λ b. b || begins_with second c) is
 
-pub among_second : (first second both : Starts) → IsUnion first second both → IsAmong second both
+pub among_second : (first second both : FirstSet) → IsUnion first second both → IsAmong second both
 among_second first second both union c is =
     union.with c ∙ or_second (begins_with first c) (begins_with second c) is
 
 -- with others behind them, and led to by more characters
-pub reaches_first : (words others : List (List Letter)) (lead wider : Starts) → IsAmong lead wider
+pub reaches_first : (words others : List (List Letter)) (lead wider : FirstSet) → IsAmong lead wider
     → ReachesToo (as_needed words lead) (as_needed (words ++ others) wider)
 reaches_first words others lead wider among bytes from (at, (le, (number, inside, stands), led)) = (
   at,
@@ -53,7 +53,7 @@ reaches_first words others lead wider among bytes from (at, (le, (number, inside
 )
 
 -- and with others before them
-pub reaches_last : (words others : List (List Letter)) (lead wider : Starts) → IsAmong lead wider
+pub reaches_last : (words others : List (List Letter)) (lead wider : FirstSet) → IsAmong lead wider
     → ReachesToo (as_needed words lead) (as_needed (others ++ words) wider)
 reaches_last words others lead wider among bytes from (at, (le, (number, inside, stands), led)) =
     let there : length others + number - length others ≡ number = omega arith in (
@@ -116,7 +116,7 @@ needed_by_more trees tree before own after needs own_too before_too each =
     last (suc k) d less h i j m = absurd (omega (arith, less))
 
 -- what is reached behind what was read is reached from where the reading began
-pub reached_behind : (walk : NeededWalk) (words : List (List Letter)) (lead all : Starts)
+pub reached_behind : (walk : NeededWalk) (words : List (List Letter)) (lead all : FirstSet)
     (bytes rest : List ℕ) → HasFound bytes rest walk → IsAmong walk.read all → IsAmong lead all
     → Reaches (as_needed words lead) rest 0 → Reaches (as_needed words all) bytes 0
 reached_behind walk words lead all bytes rest found read led (at, (le, (n, small, stands), own)) = (

@@ -14,9 +14,9 @@ use Rattle.regex_lite_syntax.specs.declared.prefilter.words.needed_walk.NeededWa
 use Rattle.regex_lite_syntax.specs.Prefilter.Needed.{Reaches}
 use Rattle.regex_lite_syntax.specs.Prefilter.NeededWalk.{AreAmong, as_needed, EndsRow, FindsBytes}
 use Rattle.regex_lite_syntax.specs.Prefilter.NeededWalk.{FindsLetter, HasFound}
-use Rattle.regex_lite_syntax.specs.Prefilter.Starts.{AreBetween}
-use Rattle.regex_lite_syntax.proofs.prefilter.starts.ReadLemmas.{same_width}
-use Rattle.regex_lite_syntax.proofs.prefilter.starts.StartLemmas.{grown_on}
+use Rattle.regex_lite_syntax.specs.Prefilter.FirstSet.{AreBetween}
+use Rattle.regex_lite_syntax.proofs.prefilter.first_set.ReadLemmas.{same_width}
+use Rattle.regex_lite_syntax.proofs.prefilter.first_set.StartLemmas.{grown_on}
 use Rattle.regex_lite_syntax.proofs.prefilter.words.LeadLemmas.{byte_among, bytes_later}
 use Rattle.regex_lite_syntax.proofs.prefilter.words.NextLemmas.{any_stands}
 use Rattle.regex_lite_syntax.proofs.prefilter.words.RowLemmas.{reads_both}

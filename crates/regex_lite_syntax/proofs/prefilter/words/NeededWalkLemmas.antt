@@ -15,14 +15,14 @@ use Rattle.regex_lite_syntax.specs.declared.prefilter.words.needed_walk.NeededWa
 use Rattle.regex_lite_syntax.specs.Prefilter.Needed.{IsNeededBy, Reaches}
 use Rattle.regex_lite_syntax.specs.Prefilter.NeededWalk.{as_needed, Chooses, EndsRow, FindsBytes}
 use Rattle.regex_lite_syntax.specs.Prefilter.NeededWalk.{FindsLetter, FindsPast, HasFound, Leaves}
-use Rattle.regex_lite_syntax.specs.Prefilter.Starts.{ReadsAmong}
+use Rattle.regex_lite_syntax.specs.Prefilter.FirstSet.{ReadsAmong}
 use Rattle.regex_lite_syntax.proofs.ForwardLemmas.{chain_forward, is_forward, passes_forward}
-use Rattle.regex_lite_syntax.proofs.prefilter.starts.ReadLemmas.{LeftAmong, one_between}
-use Rattle.regex_lite_syntax.proofs.prefilter.starts.ReadLemmas.{passes_between, reads_look}
-use Rattle.regex_lite_syntax.proofs.prefilter.starts.ReadLemmas.{reads_nothing, reads_parts}
-use Rattle.regex_lite_syntax.proofs.prefilter.starts.ReadLemmas.{reads_passes, same_width}
-use Rattle.regex_lite_syntax.proofs.prefilter.starts.ReadLemmas.{tree_left}
-use Rattle.regex_lite_syntax.proofs.prefilter.starts.StartLemmas.{grown_on}
+use Rattle.regex_lite_syntax.proofs.prefilter.first_set.ReadLemmas.{LeftAmong, one_between}
+use Rattle.regex_lite_syntax.proofs.prefilter.first_set.ReadLemmas.{passes_between, reads_look}
+use Rattle.regex_lite_syntax.proofs.prefilter.first_set.ReadLemmas.{reads_nothing, reads_parts}
+use Rattle.regex_lite_syntax.proofs.prefilter.first_set.ReadLemmas.{reads_passes, same_width}
+use Rattle.regex_lite_syntax.proofs.prefilter.first_set.ReadLemmas.{tree_left}
+use Rattle.regex_lite_syntax.proofs.prefilter.first_set.StartLemmas.{grown_on}
 use Rattle.regex_lite_syntax.proofs.prefilter.words.LeadLemmas.{char_among}
 use Rattle.regex_lite_syntax.proofs.prefilter.words.NextLemmas.{any_stands}
 use Rattle.regex_lite_syntax.proofs.prefilter.words.RowLemmas.{char_first, only_passes}

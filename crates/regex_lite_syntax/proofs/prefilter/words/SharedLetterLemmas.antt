@@ -6,7 +6,7 @@ use Rattle.std.proofs.Common.{⊎_elim}
 use Rattle.std.proofs.lemmas.List.{drop-drop}
 use Rattle.regex_lite_syntax.specs.Prefilter.Finders.{IsSharedBy}
 use Rattle.regex_lite_syntax.specs.Prefilter.Words.{AnyStandsAt}
-use Rattle.regex_lite_syntax.specs.declared.prefilter.words.leaps.shared_letter.SharedLetter.{
+use Rattle.regex_lite_syntax.specs.declared.prefilter.words.shifts.shared_letter.SharedLetter.{
   SharedLetter,
 }
 use Rattle.regex_lite_syntax.proofs.prefilter.words.NextLemmas.{any_stands, only_stands}

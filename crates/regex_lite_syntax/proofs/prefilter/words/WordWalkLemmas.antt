@@ -208,7 +208,7 @@ first_branch all left a before now next branches extends = record {
   first = λ never. absurd (false≢true never);
   shut = λ e. refl;
   reads = λ h bytes i j read some. elim (branches.reads h bytes i j read some) [
-    | inl (never, told) ↦ absurd (false≢true (sym never))
+    | inl (never, reported) ↦ absurd (false≢true (sym never))
     | inr (inr on) ↦ inr on
     | inr (inl here) ↦ elim (extends.reads h bytes i j
         (subst (HasRead bytes (encode_utf8_all (drop i h))) (sym (branches.first refl)) read)

@@ -6,7 +6,7 @@ ghost use Rattle.regex_lite_syntax.specs.Text.{Text};
 ghost use Rattle.regex_lite_syntax.specs.Characters.{is_character, is_hex_digit};
 ghost use Rattle.regex_lite_syntax.specs.Characters.{digit_value as value_of_digit};
 ghost use Rattle.regex_lite_syntax.specs.Grammar.Escapes.{FixedDigits, BracedDigits, Hexadecimal};
-ghost use Rattle.regex_lite_syntax.specs.Parser.FurtherDigits.{Reaches};
+ghost use Rattle.regex_lite_syntax.specs.Parser.FurtherDigits.{ReachesNumber};
 ghost use Rattle.regex_lite_syntax.specs.Refusals.{NoReading, CanComplete};
 
 use crate::error::{SyntaxFault, UnexpectedEof};
@@ -137,9 +137,9 @@ fn read_braced(
 /// least one digit, after another number there may be none.
 fn can_reach_at_all(number: u32, least: char) -> bool
     requires { number ≤ 0x10FFFF }
-    ensures reached { IsTrue result → (further : Text) × Reaches number least further
+    ensures reached { IsTrue result → (further : Text) × ReachesNumber number least further
         × (0 < number + length further) }
-    ensures absent { result ≡ false → (further : Text) → Reaches number least further → ⊥ }
+    ensures absent { result ≡ false → (further : Text) → ReachesNumber number least further → ⊥ }
 {
     // `10FFFF` may follow
     if number == 0 {
@@ -156,10 +156,10 @@ fn can_reach_at_all(number: u32, least: char) -> bool
 /// Whether this number of digits after the number make it a character from `least` on.
 fn can_reach(number: u32, digits: u32, least: char) -> bool
     requires { number ≤ 0x10FFFF }
-    ensures reached { IsTrue result → (further : Text) × Reaches number least further
+    ensures reached { IsTrue result → (further : Text) × ReachesNumber number least further
         × (length further ≡ digits) }
     ensures absent { result ≡ false → (further : Text) → length further ≡ digits
-        → Reaches number least further → ⊥ }
+        → ReachesNumber number least further → ⊥ }
 {
     // the least and the greatest number that can follow, capped at the last character
     let mut low = number;

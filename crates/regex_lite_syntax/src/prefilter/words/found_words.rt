@@ -2,7 +2,7 @@
 ghost use Rattle.std.specs.Prelude.{IsTrue};
 ghost use Rattle.regex_lite_syntax.specs.Prefilter.NeededWalk.{ReachesToo, as_needed};
 
-use crate::prefilter::starts::Starts;
+use crate::prefilter::first_set::FirstSet;
 use crate::prefilter::words::few_words::FewWords;
 
 /// A letter of a greater rank rules out too little if it is one of several words.
@@ -15,7 +15,7 @@ pub(crate) struct FoundWords {
     /// The rank of the rarest letter of each word, or the greatest of these ranks.
     pub(super) rank: u8,
     /// The characters that may stand before the words.
-    pub(super) lead: Starts,
+    pub(super) lead: FirstSet,
 }
 
 impl FoundWords {
@@ -24,13 +24,13 @@ impl FoundWords {
         FoundWords {
             words: FewWords::new(),
             rank: 0,
-            lead: Starts::nowhere(),
+            lead: FirstSet::nowhere(),
         }
     }
 
     /// Adds words of one more tree, with the greatest rank of them and the characters that may
     /// stand before them. Returns whether there was room.
-    pub(super) fn add(&mut self, words: &FewWords, rank: u8, lead: &Starts) -> bool
+    pub(super) fn add(&mut self, words: &FewWords, rank: u8, lead: &FirstSet) -> bool
         ensures kept { IsTrue result → ReachesToo (as_needed self.old.words self.old.lead)
             (as_needed self.new.words self.new.lead) }
         ensures added { IsTrue result → ReachesToo (as_needed words.now lead.now)

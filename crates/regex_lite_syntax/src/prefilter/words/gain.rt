@@ -56,7 +56,7 @@ impl Column {
 /// words begin, and a look at each place where one stands. They cost more where these bytes are
 /// few or rare and the words short: `cat|dog` took 2.1 times as much by leaps in English text,
 /// `ab|cd` 7 times, and `GET|POST|PUT|HEAD|DELETE` 3.4 times in prose.
-pub(super) fn leaps_pay(list: &WordList, reach: usize) -> bool {
+pub(super) fn shifts_pay(list: &WordList, reach: usize) -> bool {
     let mut first = Column::new();
     let mut second = Column::new();
     'words: for number in 0..list.len() {
@@ -138,11 +138,11 @@ fn ascii_byte(hir: &Hir) -> Option<u8> {
 
 /// Whether leaps of so many bytes at most cost no more than to stop so often in a thousand bytes.
 fn pays(stops: usize, reach: usize) -> bool {
-    cost_of_leaps(reach) <= PASSED.saturating_add(stops.saturating_mul(3) / 2)
+    cost_of_shifts(reach) <= PASSED.saturating_add(stops.saturating_mul(3) / 2)
 }
 
 /// What a hundred bytes cost by leaps of so many bytes at most.
-fn cost_of_leaps(reach: usize) -> usize {
+fn cost_of_shifts(reach: usize) -> usize {
     match reach {
         0..=2 => 130,
         3 => 75,

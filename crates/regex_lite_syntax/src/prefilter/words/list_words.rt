@@ -47,7 +47,8 @@ impl ListWords {
     ///
     /// If memory runs out.
     pub fn of<T: AsHir>(alloc: Global, hirs: &[T]) -> Result<Option<ListWords>, AllocError>
-        ensures { IfOk result (λ told. IfSome told (AreWordsOfTrees (map T.tree hirs.now))) }
+        ensures { IfOk result
+            (λ reported. IfSome reported (AreWordsOfTrees (map T.tree hirs.now))) }
     {
         if hirs.len() > MOST {
             return Ok(None);
@@ -91,13 +92,13 @@ impl ListWords {
     ///
     /// Conditions: there is room for as many answers as there are patterns, and the offset is at
     /// most the length.
-    pub fn which_stand(&self, bytes: &[u8], from: usize, told: &mut [bool])
+    pub fn which_stand(&self, bytes: &[u8], from: usize, reported: &mut [bool])
         requires from { from ≤ length bytes.now }
-        requires patterns { HavePatterns self.now (length told.old) }
-        ensures told { TellsWhichStand self.now bytes.now from told.new }
-        ensures length { length told.new ≡ length told.old }
+        requires patterns { HavePatterns self.now (length reported.old) }
+        ensures reported { TellsWhichStand self.now bytes.now from reported.new }
+        ensures length { length reported.new ≡ length reported.old }
     {
-        self.words.which_stand(&self.owners, bytes, from, told);
+        self.words.which_stand(&self.owners, bytes, from, reported);
     }
 }
 
@@ -116,7 +117,7 @@ impl Gathered {
     /// If memory runs out.
     fn of<T: AsHir>(alloc: Global, hirs: &[T]) -> Result<Option<Gathered>, AllocError>
         requires few { length hirs.now ≤ 10000 }
-        ensures { IfOk result (λ told. IfSome told (λ gathered.
+        ensures { IfOk result (λ reported. IfSome reported (λ gathered.
             AreGatheredFrom (map T.tree hirs.now) (length hirs.now) (all_words gathered.list)
             gathered.owners.items)) }
     {

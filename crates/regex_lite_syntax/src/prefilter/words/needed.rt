@@ -11,11 +11,11 @@ ghost use Rattle.regex_lite_syntax.specs.Tree.Views.{tree_of};
 ghost use Rattle.regex_lite_syntax.specs.Prefilter.Needed.{HavePairs, IsNeededBy, IsNextBelow};
 ghost use Rattle.regex_lite_syntax.specs.Prefilter.Needed.{AreNeededByEach, IsNextOf, IsNextReach};
 ghost use Rattle.regex_lite_syntax.specs.Prefilter.NeededWalk.{as_needed};
-ghost use Rattle.regex_lite_syntax.specs.Prefilter.Starts.{begins_with};
+ghost use Rattle.regex_lite_syntax.specs.Prefilter.FirstSet.{begins_with};
 
 use crate::hir::Hir;
 use crate::hir::as_hir::AsHir;
-use crate::prefilter::starts::Starts;
+use crate::prefilter::first_set::FirstSet;
 use crate::prefilter::words::branch_words::may_have_longer;
 use crate::prefilter::words::few_words::{FewWords, MOST};
 use crate::prefilter::words::found_words::FoundWords;
@@ -34,7 +34,7 @@ pub struct Needed {
     words: FewWords,
     /// How each word is found.
     pairs: [Pair; MOST],
-    lead: Starts,
+    lead: FirstSet,
 }
 
 /// Where a word is reached.

@@ -7,11 +7,11 @@ ghost use Rattle.regex_lite_syntax.specs.Prefilter.Needed.{IsNeededBy};
 ghost use Rattle.regex_lite_syntax.specs.Prefilter.NeededWalk.{Chooses, EndsRow, FindsBytes};
 ghost use Rattle.regex_lite_syntax.specs.Prefilter.NeededWalk.{FindsLetter};
 ghost use Rattle.regex_lite_syntax.specs.Prefilter.NeededWalk.{FindsPast, Leaves, as_needed};
-ghost use Rattle.regex_lite_syntax.specs.Prefilter.Starts.{ReadsAmong, begins_with};
+ghost use Rattle.regex_lite_syntax.specs.Prefilter.FirstSet.{ReadsAmong, begins_with};
 
 use crate::class::Class;
 use crate::hir::Hir;
-use crate::prefilter::starts::Starts;
+use crate::prefilter::first_set::FirstSet;
 use crate::prefilter::words::branch_words::may_have_words;
 use crate::prefilter::words::few_words::{FewWords, MOST};
 use crate::prefilter::words::found_words::FoundWords;
@@ -45,11 +45,11 @@ pub(crate) struct NeededWalk {
     /// How many branches more are.
     branches: usize,
     /// The characters that may stand before the best words.
-    best_lead: Starts,
+    best_lead: FirstSet,
     /// Those that may stand before the row.
-    row_lead: Starts,
+    row_lead: FirstSet,
     /// Those that these parts can read.
-    read: Starts,
+    read: FirstSet,
 }
 
 impl NeededWalk {
@@ -86,9 +86,9 @@ impl NeededWalk {
             row_rank: u8::MAX,
             left: LOOKED_AT,
             branches,
-            best_lead: Starts::nowhere(),
-            row_lead: Starts::nowhere(),
-            read: Starts::nowhere(),
+            best_lead: FirstSet::nowhere(),
+            row_lead: FirstSet::nowhere(),
+            read: FirstSet::nowhere(),
         }
     }
 
@@ -103,8 +103,8 @@ impl NeededWalk {
         self.best.set_to_one(&self.row);
         self.best_rank = u8::MAX;
         self.left = LOOKED_AT;
-        self.read.set_to(&Starts::nowhere());
-        self.row_lead.set_to(&Starts::nowhere());
+        self.read.set_to(&FirstSet::nowhere());
+        self.row_lead.set_to(&FirstSet::nowhere());
         match hir {
             Hir::Concat(parts) => self.visit_parts(parts, front),
             _ => self.visit(hir),
@@ -266,7 +266,7 @@ impl NeededWalk {
         ensures all { (c : ℕ) → begins_with self.new.read c ≡ true }
         ensures left { Leaves self.old self.new }
     {
-        self.read.set_to(&Starts::everywhere());
+        self.read.set_to(&FirstSet::everywhere());
         self.end_row();
     }
 

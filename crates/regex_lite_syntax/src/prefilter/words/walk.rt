@@ -44,7 +44,7 @@ impl WordWalk {
     ) -> Result<Option<WordList>, AllocError>
         requires done { words.done ≡ [] }
         requires last { words.last ≡ [] }
-        ensures { IfOk result (λ told. IfSome told
+        ensures { IfOk result (λ reported. IfSome reported
             (λ words. AreWordsOfTree (tree_of hir.now) (all_words words))) }
     {
         let mut walk = WordWalk {

@@ -2,7 +2,7 @@ use Rattle.std.proofs.Common.{◌∙◌, false, true, is_ok}
 use Rattle.regex_lite.proofs.ReplacementLemmas.{handed_on}
 use Rattle.rxl.specs.Output.{IsWritten}
 use Rattle.rxl.proofs.program.FaultLemmas.{ends_cut_short}
-use Rattle.rxl.proofs.program.ToldLemmas.{all_written, cut_short, done, some_written}
+use Rattle.rxl.proofs.program.ReportedLemmas.{all_written, cut_short, done, some_written}
 use Rattle.rxl.proofs.program.print_answer.Goals as goal
 
 pub returns-in_err-found-clause-kept : goal.returns-in_err-found-clause-kept

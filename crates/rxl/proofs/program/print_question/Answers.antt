@@ -1,4 +1,4 @@
-use Rattle.rxl.proofs.program.ToldLemmas.{printed_by_search}
+use Rattle.rxl.proofs.program.ReportedLemmas.{printed_by_search}
 use Rattle.rxl.proofs.program.print_question.Goals as goal
 
 pub returns-in-IsMatch-clause-ok : goal.returns-in-IsMatch-clause-ok

@@ -11,11 +11,11 @@ returns-in-Err-clause-fault g c _ =
 
 pub returns-in-Err-clause-usage : goal.returns-in-Err-clause-usage
 returns-in-Err-clause-usage g c none =
-    let told = c.in-Err.ensures.usage none in (
+    let reported = c.in-Err.ensures.usage none in (
       refl,
-      told.1,
-      told.2,
+      reported.1,
+      reported.2,
       usage_reported c.in-Err.fault (g.E.Write.contents c.args.err.now)
           (g.E.Write.contents c.report.new.out) (is_ok c.report.result)
-          (ap fault_of told.0) c.report.ensures,
+          (ap fault_of reported.0) c.report.ensures,
     )

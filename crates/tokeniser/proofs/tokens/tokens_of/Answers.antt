@@ -25,12 +25,12 @@ returns-in_default-clause-fault c =
     let text = c.args.text.now in
     let at = c.loop-at.at in
     let inv = c.loop-at.invariant in
-    let told = subst (λ s. TellsMatchAtOfList s text at c.find_anchored_at.result) inv.same
+    let reported = subst (λ s. TellsMatchAtOfList s text at c.find_anchored_at.result) inv.same
     c.find_anchored_at.ensures.found in (
       (c.loop-at.tokens.items, inv.tokens, c.loop-at-test.true),
       nothing_at c.anchored_searches_find_the_match_there.ensures.several rules text c.utf8.text
           at inv.edge
-          (subst (TellsMatchAtOfList rules text at) c.in_default.is told),
+          (subst (TellsMatchAtOfList rules text at) c.in_default.is reported),
     )
 
 pub returns-then-is_empty-clause-fault : goal.returns-then-is_empty-clause-fault
@@ -40,11 +40,11 @@ returns-then-is_empty-clause-fault c =
     let at = c.loop-at.at in
     let inv = c.loop-at.invariant in
     let found = c.in-Some.found in
-    let told = subst (λ s. TellsMatchAtOfList s text at (Some (c.in-Some.rule, found))) inv.same
+    let reported = subst (λ s. TellsMatchAtOfList s text at (Some (c.in-Some.rule, found))) inv.same
     c.in-Some.ensures.found in
     let law = c.anchored_searches_find_the_match_there.ensures.several in
-    let start = begins law rules text c.utf8.text at inv.edge c.in-Some.rule found told in
-    let part = part_at law rules text c.utf8.text at inv.edge c.in-Some.rule found told in
+    let start = begins law rules text c.utf8.text at inv.edge c.in-Some.rule found reported in
+    let part = part_at law rules text c.utf8.text at inv.edge c.in-Some.rule found reported in
     let end = sym (c.if-is_empty.ensures.0 refl) ∙ start in (
       (c.loop-at.tokens.items, inv.tokens, c.loop-at-test.true),
       subst (IsPartAt rules text c.in-Some.rule at) end part,
@@ -59,17 +59,17 @@ loop-at-preserved c =
     let law = c.anchored_searches_find_the_match_there.ensures.several in
     let found = c.in-Some.found in
     let end = (span_of_match found).1 in
-    let told = subst (λ s. TellsMatchAtOfList s text at (Some (c.in-Some.rule, found))) inv.same
+    let reported = subst (λ s. TellsMatchAtOfList s text at (Some (c.in-Some.rule, found))) inv.same
     c.in-Some.ensures.found in
     let made : Token = record { rule = c.in-Some.rule; text = c.as_str.result } in
     let token : IsTokenAt rules text at end made =
-    token_at law rules text c.utf8.text at inv.edge c.in-Some.rule found told made
+    token_at law rules text c.utf8.text at inv.edge c.in-Some.rule found reported made
     found.lies_in refl c.as_str.ensures
     (λ same. false≢true (sym c.if-is_empty.false ∙ c.is_empty.ensures.1 same)) in
     record {
       same = c.find_anchored_at.ensures.same ∙ inv.same;
       edge = subst (IsCharBoundary text) (sym c.end-at.ensures)
-          (edge_after law rules text c.utf8.text at inv.edge c.in-Some.rule found told
+          (edge_after law rules text c.utf8.text at inv.edge c.in-Some.rule found reported
           found.lies_in);
       tokens = subst (λ ts. AreTokens rules text 0 ts c.end-at.result)
           (sym c.in_ok-push.ensures.items)
@@ -86,9 +86,9 @@ loop-at-smaller c =
     let inv = c.loop-at.invariant in
     let law = c.anchored_searches_find_the_match_there.ensures.several in
     let found = c.in-Some.found in
-    let told = subst (λ s. TellsMatchAtOfList s text at (Some (c.in-Some.rule, found))) inv.same
+    let reported = subst (λ s. TellsMatchAtOfList s text at (Some (c.in-Some.rule, found))) inv.same
     c.in-Some.ensures.found in
-    let later = ends_later law rules text c.utf8.text at inv.edge c.in-Some.rule found told
+    let later = ends_later law rules text c.utf8.text at inv.edge c.in-Some.rule found reported
     found.lies_in
     (λ same. false≢true (sym c.if-is_empty.false ∙ c.is_empty.ensures.1 same)) in
     omega (arith, c.loop-at-test.true, c.end-at.ensures, later)

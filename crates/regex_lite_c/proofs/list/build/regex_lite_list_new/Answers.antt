@@ -2,8 +2,8 @@ use Rattle.regex_lite_c.proofs.Common.{◌≡◌, ℕ, List, None, Option, sym, 
 use Rattle.regex_lite_c.proofs.Common.{arith, Expression, number_of, settings_of_all}
 use Rattle.regex_lite_c.proofs.Common.{IsFirstOtherBytes}
 use Rattle.regex_lite_syntax.specs.Errors.{kind_of}
-use Rattle.regex_lite_c.specs.ListBuilding.{AreAllBytes, IsDueAt}
-use Rattle.regex_lite_c.specs.ListBuilding.{IsListBuildAnswer, IsRefusedAs, IsTold}
+use Rattle.regex_lite_c.specs.ListBuilding.{AreAllBytes, IsDueAt, IsListBuildAnswer, IsRefusedAs}
+use Rattle.regex_lite_c.specs.ListBuilding.{IsReported}
 use Rattle.regex_lite_c.specs.declared.list.build.Refused.{Refused}
 use Rattle.regex_lite_c.specs.declared.list.build.Refused.TheVariants as refused
 use Rattle.regex_lite_c.specs.declared.list.types.ListPattern.{ListPattern}
@@ -11,12 +11,13 @@ use Rattle.regex_lite_c.specs.declared.list.types.ListRefusal.{ListRefusal}
 use Rattle.regex_lite_c.proofs.build.RefusalLemmas.{above_five}
 use Rattle.regex_lite_c.proofs.list.build.regex_lite_list_new.Goals as goal
 
-list_told : (bytes : List ℕ) (patterns : List ListPattern) (why : Refused) (answer : ℕ)
-    (held : Option (List Expression)) (told : ListRefusal) (old new : List ℕ)
+list_reported : (bytes : List ℕ) (patterns : List ListPattern) (why : Refused) (answer : ℕ)
+    (held : Option (List Expression)) (reported : ListRefusal) (old new : List ℕ)
     → held ≡ None → AreAllBytes patterns bytes
-    → IsRefusedAs (settings_of_all bytes patterns) why → IsTold why answer told old new
-    → IsListBuildAnswer bytes patterns answer held told old new
-list_told bytes patterns (refused.NotText number) answer held told old new none whole first tells =
+    → IsRefusedAs (settings_of_all bytes patterns) why → IsReported why answer reported old new
+    → IsListBuildAnswer bytes patterns answer held reported old new
+list_reported bytes patterns (refused.NotText number) answer held reported old new none whole first
+    tells =
     let all = settings_of_all bytes patterns in
     let is = tells.0 in
     record {
@@ -34,7 +35,8 @@ list_told bytes patterns (refused.NotText number) answer held told old new none 
         | inr bad ↦ omega (arith, is, bad)
       ]);
     }
-list_told bytes patterns (refused.By number error) answer held told old new none whole due tells =
+list_reported bytes patterns (refused.By number error) answer held reported old new none whole due
+    tells =
     let all = settings_of_all bytes patterns in
     let is = tells.0 in
     let large = above_five (kind_of error) in
@@ -68,6 +70,6 @@ list_told bytes patterns (refused.By number error) answer held told old new none
 pub returns : goal.returns
 returns c =
     let whole = c.are_all_bytes.ensures.0 c.if-not-are_all_bytes.false in
-    list_told c.args.bytes.now c.args.patterns.now c.in-Err.refused c.tell.result
-    c.take-freed.new.self.value c.tell.new.told c.args.message.now c.tell.new.message
+    list_reported c.args.bytes.now c.args.patterns.now c.in-Err.refused c.tell.result
+    c.take-freed.new.self.value c.tell.new.reported c.args.message.now c.tell.new.message
     c.take-freed.ensures.nothing whole c.in-Err.ensures.refused c.tell.ensures

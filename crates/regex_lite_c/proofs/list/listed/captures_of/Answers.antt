@@ -6,7 +6,7 @@ use Rattle.regex_lite_c.proofs.list.listed.captures_of.Goals as goal
 pub returns : goal.returns
 returns c =
     let spans = c.captures-2.new.spans in
-    let count = c.captures-2.new.told in
+    let count = c.captures-2.new.reported in
     listed_groups c.args.list.now c.args.number
     (omega (arith, c.if-number-len.false, c.len.ensures))
     ((c.captures-2.result ≡ NO_PATTERN) × (spans ≡ c.args.spans.now) × (count ≡ c.args.count.now))

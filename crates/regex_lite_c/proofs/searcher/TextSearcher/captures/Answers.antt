@@ -27,7 +27,7 @@ returns-clause-answer c =
       names = [];
       static_captures_len = None;
     } in
-    let told = tells_spans own read start locs c.in-Some.field-0 each
+    let reported = tells_spans own read start locs c.in-Some.field-0 each
     (rw c.in-Some.is at c.captures_read_at-found.ensures.found) in
     of_own
     (λ re text. IsGroupsAnswerOf (AreFirstSpans re text start) (TellsSpans re text start None) text
@@ -37,7 +37,7 @@ returns-clause-answer c =
     (groups_found (AreFirstSpans own read start) (TellsSpans own read start None) read start old new
     c.args.count.now count c.write_groups.result groups c.as_str-text.utf8
     (c.is_char_boundary.ensures.test.0 c.if-not-is_char_boundary.false)
-    (told, c.len.ensures.len) c.write_groups.ensures.written c.write_groups.ensures.no_room)
+    (reported, c.len.ensures.len) c.write_groups.ensures.written c.write_groups.ensures.no_room)
 
 pub invariant_of-self : goal.invariant_of-self
 invariant_of-self c =

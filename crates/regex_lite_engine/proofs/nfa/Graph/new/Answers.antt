@@ -9,7 +9,7 @@ use Rattle.regex_lite_engine.proofs.nfa.write.RenumberingLemmas.{whole_names, re
 use Rattle.regex_lite_engine.proofs.nfa.write.RenumberingLemmas.{closed, start_inside}
 use Rattle.regex_lite_engine.proofs.count.ArrowCountLemmas.{arrows_pattern}
 use Rattle.regex_lite_engine.proofs.count.ReadingCountLemmas.{reading_few, reading_pattern}
-use Rattle.regex_lite_engine.proofs.count.KeptBackLemmas.{kept_back_pattern}
+use Rattle.regex_lite_engine.proofs.count.StackBoundLemmas.{stack_bound_pattern}
 use Rattle.regex_lite_engine.proofs.nfa.WayLemmas.{none_at_end, written_answers}
 use Rattle.regex_lite_engine.proofs.nfa.WayLemmas.{written_facts}
 use Rattle.regex_lite_engine.proofs.ArrowBoundLemmas.{arrows_few}
@@ -51,7 +51,7 @@ new-table-requires-clause-closed c =
     (omega (arith, counted, arrows_few tree c.requires, fits.places_fit))
     (omega (arith, reads, reading_few tree, places.length))
     (reading_pattern tree 0 ∙ sym reads)
-    (omega (arith, kept_back_pattern tree c.requires 0, places.length))
+    (omega (arith, stack_bound_pattern tree c.requires 0, places.length))
 
 pub new-table-requires-clause-each_arrow : goal.new-table-requires-clause-each_arrow
 new-table-requires-clause-each_arrow c =

@@ -1,5 +1,5 @@
 use Rattle.std.proofs.Common.{add-one}
-use Rattle.regex_lite_engine.proofs.nfa.write.RoomLemmas.{part_places, part_index}
+use Rattle.regex_lite_engine.proofs.nfa.write.CapacityLemmas.{part_places, part_index}
 use Rattle.regex_lite_engine.proofs.nfa.write.part_at.Goals as goal
 
 pub returns-clause-room : goal.returns-clause-room

@@ -9,7 +9,7 @@ use Rattle.regex_lite_engine.proofs.search.CountLemmas.{counted_at_first, still_
 use Rattle.regex_lite_engine.proofs.pikevm.AnchoredLemmas.{anchored_found, none_starts, under_as}
 use Rattle.regex_lite_engine.proofs.pikevm.EndLemmas.{some_after}
 use Rattle.regex_lite_engine.proofs.pikevm.PassLemmas.{begun_to, bounded}
-use Rattle.regex_lite_engine.proofs.pikevm.TurnLemmas.{starts_up_to}
+use Rattle.regex_lite_engine.proofs.pikevm.SteppingLemmas.{starts_up_to}
 use Rattle.regex_lite_engine.proofs.pikevm.anchored.run_anchored.Given as given
 use Rattle.regex_lite_engine.proofs.pikevm.anchored.run_anchored.Goals as goal
 use Rattle.regex_lite_engine.proofs.pikevm.anchored.run_anchored.Goals.{

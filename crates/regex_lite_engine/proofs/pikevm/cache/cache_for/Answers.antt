@@ -16,7 +16,7 @@ returns-clause-fresh g c =
     length-map c.args.table.now.places place_of in
     let places : c.places-places.result ≡ length c.args.table.now.places =
     c.places-places.ensures.same in
-    let kept = c.places-places.ensures.kept_back (subst (λ n. 0 < n) (sym places) c.requires) in
+    let kept = c.places-places.ensures.stack_bound (subst (λ n. 0 < n) (sym places) c.requires) in
     let blank = c.in_ok-blank.ensures in
     let tried = c.no_steps.ensures.tried in let entered = c.no_steps.ensures.entered in
     let room = blank.room in

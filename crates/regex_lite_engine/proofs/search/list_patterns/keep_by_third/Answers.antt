@@ -2,7 +2,7 @@ use Rattle.regex_lite_engine.proofs.Common.{◌≡◌, ℕ, suc, ◌+◌, Bool, 
 use Rattle.regex_lite_engine.proofs.Common.{chars, sym, refl, ap, ◌∙◌, arith, rules, after}
 use Rattle.regex_lite_engine.proofs.Common.{may_go_on}
 use Rattle.std.proofs.Common.{filter}
-use Rattle.regex_lite_syntax.proofs.prefilter.list_heads.ThirdLemmas.{all_go_on, none_later}
+use Rattle.regex_lite_syntax.proofs.prefilter.prefix_index.ThirdLemmas.{all_go_on, none_later}
 use Rattle.regex_lite_engine.proofs.search.list_patterns.keep_by_third.Goals as goal
 use Rattle.regex_lite_engine.proofs.search.list_patterns.keep_by_third.Goals.{
   then-is_empty-via-then-is_empty,
@@ -20,11 +20,11 @@ returns-then-is_empty-clause-kept c = λ p is.
     elim c.then-is_empty.branch [
       | then-is_empty-via-then-is_empty w ↦
           let none : length numbers ≡ 0 = search rules in
-          of_none (may_go_on c.args.heads.now.thirds (after h (suc p))) numbers none
+          of_none (may_go_on c.args.prefixes.now.third_masks (after h (suc p))) numbers none
       | then-is_empty-via-else-is_empty+then-is_none w ↦
           let end : c.args.second.after ≡ None = search rules in
-          all_go_on c.args.heads.now.thirds numbers
-          ∙ ap (λ o. filter (may_go_on c.args.heads.now.thirds o) numbers)
+          all_go_on c.args.prefixes.now.third_masks numbers
+          ∙ ap (λ o. filter (may_go_on c.args.prefixes.now.third_masks o) numbers)
           (sym (none_later h p (sym is.ahead ∙ end)))
     ]
 
@@ -34,7 +34,7 @@ returns-in-Some-clause-kept c = λ p is.
     let next : p + 1 ≡ suc p = omega arith in
     let third = c.next.ensures p is in
     c.keep.ensures.kept
-    ∙ ap (λ o. filter (may_go_on c.args.heads.now.thirds o) c.args.numbers.now.items)
+    ∙ ap (λ o. filter (may_go_on c.args.prefixes.now.third_masks o) c.args.numbers.now.items)
     (sym c.in-Some.is ∙ third.ahead ∙ ap (after h) next)
 
 pub returns-in_default-clause-kept : goal.returns-in_default-clause-kept
@@ -42,6 +42,6 @@ returns-in_default-clause-kept c = λ p is.
     let h = chars c.args.haystack.now in
     let next : p + 1 ≡ suc p = omega arith in
     let third = c.next.ensures p is in
-    all_go_on c.args.heads.now.thirds c.args.numbers.now.items
-    ∙ ap (λ o. filter (may_go_on c.args.heads.now.thirds o) c.args.numbers.now.items)
+    all_go_on c.args.prefixes.now.third_masks c.args.numbers.now.items
+    ∙ ap (λ o. filter (may_go_on c.args.prefixes.now.third_masks o) c.args.numbers.now.items)
     (sym c.in_default.is ∙ third.ahead ∙ ap (after h) next)

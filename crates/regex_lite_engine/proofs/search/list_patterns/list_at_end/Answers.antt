@@ -26,10 +26,10 @@ copy_numbers-requires c = omega (arith, c.at_end.ensures.few, c.requires.room)
 pub returns-then-is_some-clause-starts : goal.returns-then-is_some-clause-starts
 returns-then-is_some-clause-starts c haystack p is =
     let list = c.args.list.now in
-    let Starts : ℕ → List ℕ → Type 0 = λ at numbers. AreStartsAt (table_of_list list) haystack
+    let FirstSet : ℕ → List ℕ → Type 0 = λ at numbers. AreStartsAt (table_of_list list) haystack
     list.entries at (map (start_numbered list.entries) numbers) in
-    subst (Starts p) (sym c.copy_numbers.ensures.copied)
-    (subst (λ at. Starts at c.at_end.result.now)
+    subst (FirstSet p) (sym c.copy_numbers.ensures.copied)
+    (subst (λ at. FirstSet at c.at_end.result.now)
     (at_end haystack p is.inside (sym is.ahead ∙ c.requires.end))
     (c.at_end.ensures.starts haystack))
 
@@ -46,17 +46,18 @@ returns-then-is_some-clause-few c =
 pub list_all-requires-clause-few : goal.list_all-requires-clause-few
 list_all-requires-clause-few c =
     let same = ap length c.entries-entries.ensures.same in
-    omega (arith, c.heads.ensures.count, same, c.entries-entries.ensures.few)
+    omega (arith, c.prefixes.ensures.count, same, c.entries-entries.ensures.few)
 
 pub list_all-requires-clause-room : goal.list_all-requires-clause-room
-list_all-requires-clause-room c = omega (arith, c.heads.ensures.count, c.requires.room)
+list_all-requires-clause-room c = omega (arith, c.prefixes.ensures.count, c.requires.room)
 
 pub returns-clause-starts : goal.returns-clause-starts
 returns-clause-starts c haystack p is =
     let list = c.args.list.now in
-    let told = c.entries-entries.ensures in
-    let all = all_of_entries list c.entries-entries.result.now told.same told.inside told.few in
-    let listed = c.list_all.ensures.listed ∙ ap (range_with_len 0) c.heads.ensures.count in
+    let reported = c.entries-entries.ensures in
+    let all = all_of_entries list c.entries-entries.result.now reported.same reported.inside
+    reported.few in
+    let listed = c.list_all.ensures.listed ∙ ap (range_with_len 0) c.prefixes.ensures.count in
     subst (λ numbers. AreStartsAt (table_of_list list) haystack list.entries p
     (map (start_numbered list.entries) numbers)) (sym listed) (starts_at all haystack p)
 
@@ -64,9 +65,15 @@ pub returns-clause-inside : goal.returns-clause-inside
 returns-clause-inside c =
     let n = length c.args.list.now.entries in
     subst (All (λ number. number < n))
-    (sym (c.list_all.ensures.listed ∙ ap (range_with_len 0) c.heads.ensures.count)) (all_inside n)
+    (sym (c.list_all.ensures.listed ∙ ap (range_with_len 0) c.prefixes.ensures.count))
+    (all_inside n)
 
 pub returns-clause-few : goal.returns-clause-few
 returns-clause-few c =
     let size = ap length c.list_all.ensures.listed in
-    omega (arith, size, length-range_with_len 0 c.heads.result.now.count, c.heads.ensures.count)
+    omega (
+      arith,
+      size,
+      length-range_with_len 0 c.prefixes.result.now.count,
+      c.prefixes.ensures.count,
+    )

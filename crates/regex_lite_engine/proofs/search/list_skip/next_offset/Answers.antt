@@ -16,7 +16,7 @@ loop-k-preserved c =
         | inl lt ↦ c.loop-k.invariant.passed k from lt
         | inr ge ↦
             let same : k ≡ at = omega (arith, ge, below) in
-            subst (IsPassedByAll c.args.heads.now c.args.bytes.now) (sym same)
+            subst (IsPassedByAll c.args.prefixes.now c.args.bytes.now) (sym same)
             (c.may_begin_at.ensures.passed c.if-may_begin_at.false)
       ];
     }
@@ -46,7 +46,7 @@ ones-preserved c =
         | inl lt ↦ c.ones.invariant.passed k from lt
         | inr ge ↦
             let same : k ≡ c.ones.at = omega (arith, ge, below) in
-            subst (IsPassedByAll c.args.heads.now c.args.bytes.now) (sym same)
+            subst (IsPassedByAll c.args.prefixes.now c.args.bytes.now) (sym same)
             (c.may_begin_at-in-ones.ensures.passed c.if-may_begin_at-2.false)
       ];
     }

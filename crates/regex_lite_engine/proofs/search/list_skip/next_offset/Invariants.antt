@@ -5,7 +5,7 @@ abbrev pub invariant-fours : goal.invariant-fours
 invariant-fours l = record {
   low : l.from ≤ l.at;
   high : l.at ≤ length l.bytes;
-  passed : (k : ℕ) → l.from ≤ k → k < l.at → IsPassedByAll l.heads l.bytes k;
+  passed : (k : ℕ) → l.from ≤ k → k < l.at → IsPassedByAll l.prefixes l.bytes k;
 }
 
 abbrev pub decreases-fours : goal.decreases-fours
@@ -15,14 +15,14 @@ abbrev pub invariant-loop-k : goal.invariant-loop-k
 invariant-loop-k l = record {
   low : l.from ≤ l.at;
   high : l.at + 4 ≤ length l.bytes;
-  passed : (k : ℕ) → l.from ≤ k → k < l.at + l.k → IsPassedByAll l.heads l.bytes k;
+  passed : (k : ℕ) → l.from ≤ k → k < l.at + l.k → IsPassedByAll l.prefixes l.bytes k;
 }
 
 abbrev pub invariant-ones : goal.invariant-ones
 invariant-ones l = record {
   low : l.from ≤ l.at;
   high : l.at ≤ length l.bytes;
-  passed : (k : ℕ) → l.from ≤ k → k < l.at → IsPassedByAll l.heads l.bytes k;
+  passed : (k : ℕ) → l.from ≤ k → k < l.at → IsPassedByAll l.prefixes l.bytes k;
 }
 
 abbrev pub decreases-ones : goal.decreases-ones

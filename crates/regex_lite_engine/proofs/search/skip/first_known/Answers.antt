@@ -6,7 +6,7 @@ use Rattle.regex_lite_engine.proofs.search.skip.first_known.Goals as goal
 
 pub returns-in-None-clause-passed : goal.returns-in-None-clause-passed
 returns-in-None-clause-passed c = λ i within above below.
-    inl (c.first_head.ensures.passed i within above below)
+    inl (c.first_prefix.ensures.passed i within above below)
 
 pub returns-in-Some-clause-passed : goal.returns-in-Some-clause-passed
 returns-in-Some-clause-passed c = λ i within above below.

@@ -15,7 +15,7 @@ stops-preserved c =
               | inl before ↦ c.next_first-at.ensures.passed k after before
               | inr there ↦
                   let same : c.next_first-at.result ≡ k = omega (arith, there, below) in
-                  subst (IsPassed c.args.heads.now c.args.bytes.now) same
+                  subst (IsPassed c.args.prefixes.now c.args.bytes.now) same
                   (inr (c.if-may_go_on.ensures refl))
             ]
       ];

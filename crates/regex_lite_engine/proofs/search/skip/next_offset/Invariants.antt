@@ -5,7 +5,7 @@ abbrev pub invariant-stops : goal.invariant-stops
 invariant-stops l = record {
   low : l.from ≤ l.at;
   high : l.at ≤ length l.bytes;
-  passed : (k : ℕ) → l.from ≤ k → k < l.at → IsPassed l.heads l.bytes k;
+  passed : (k : ℕ) → l.from ≤ k → k < l.at → IsPassed l.prefixes l.bytes k;
 }
 
 abbrev pub decreases-stops : goal.decreases-stops

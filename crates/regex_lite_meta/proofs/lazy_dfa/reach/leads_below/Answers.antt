@@ -5,8 +5,8 @@ use Rattle.regex_lite_meta.proofs.lazy_dfa.ReachLemmas.{branches_below}
 use Rattle.regex_lite_meta.proofs.lazy_dfa.reach.leads_below.Goals as goal
 
 pub returns-in-Branches : goal.returns-in-Branches
-returns-in-Branches c = λ told.
+returns-in-Branches c = λ reported.
     subst (λ place. LeadsBelow c.args.number (place_of place)) (sym c.in-Branches.is)
     (branches_below c.args.number c.in-Branches.entries.items
     (subst (All (λ entry. entry < c.args.number)) c.deref.ensures.value
-    (c.are_below.ensures told)))
+    (c.are_below.ensures reported)))

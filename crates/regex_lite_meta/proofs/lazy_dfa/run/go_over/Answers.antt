@@ -3,7 +3,7 @@ use Rattle.regex_lite_meta.proofs.Common.{refl, arith, arrows_of}
 use Rattle.std.proofs.Math.Nat.{mul-le-mul_left}
 use Rattle.regex_lite_engine.proofs.pikevm.EndLemmas.{bound_more}
 use Rattle.regex_lite_engine.proofs.pikevm.PassLemmas.{bound_on}
-use Rattle.regex_lite_engine.proofs.pikevm.TurnLemmas.{starts_up_to}
+use Rattle.regex_lite_engine.proofs.pikevm.SteppingLemmas.{starts_up_to}
 use Rattle.regex_lite_engine.proofs.search.list_patterns.ListStartLemmas.{starts_at}
 use Rattle.regex_lite_meta.proofs.lazy_dfa.run.go_over.Goals as goal
 
@@ -15,8 +15,8 @@ next_fits len s p m most a low inside fits so_far =
     let within : p + 1 - s ≤ len - s + 1 = omega (arith, low, inside) in
     let all = mul-le-mul_left m within in omega (arith, next, all, fits)
 
-pub turn-requires-clause-inside : goal.turn-requires-clause-inside
-turn-requires-clause-inside g c = c.requires.all.inside
+pub step-requires-clause-inside : goal.step-requires-clause-inside
+step-requires-clause-inside g c = c.requires.all.inside
 
 pub returns-clause-on : goal.returns-clause-on
 returns-clause-on g c = λ s from p is on.
@@ -25,18 +25,18 @@ returns-clause-on g c = λ s from p is on.
     let entries = g.P.Patterns.entries a.patterns.now in
     let h = chars a.haystack.now in
     let old = a.cache.now in
-    let new = c.turn.new.self in
+    let new = c.step.new.self in
     let all = c.requires.all in
     let low = on.low in
     let after = on.after in
-    let tries = c.turn.ensures.tries in
+    let tries = c.step.ensures.tries in
     let few = all.few in
     record {
       low = omega (arith, low);
       after = omega (arith, after);
-      ready = c.turn.ensures.ready;
+      ready = c.step.ensures.ready;
       coming =
-          c.turn.ensures.comes h entries p from (length h) is after
+          c.step.ensures.comes h entries p from (length h) is after
           (starts_up_to is.inside (starts_at all h p)) on.coming;
       tries =
           bound_on table h entries s (old.walk.steps.tried + length old.walk.memory.threads)
@@ -44,13 +44,13 @@ returns-clause-on g c = λ s from p is on.
           (arrows_of table + length entries) low (omega arith) on.tries (omega (arith, tries, few));
       entries_left =
           bound_on table h entries s old.walk.steps.entered new.walk.steps.entered p p
-          (length table) low (omega arith) on.entries_left c.turn.ensures.entries;
+          (length table) low (omega arith) on.entries_left c.step.ensures.entries;
       width =
-          sym c.turn.ensures.ready.best_width ∙ c.turn.ensures.width ∙ on.ready.best_width
+          sym c.step.ensures.ready.best_width ∙ c.step.ensures.width ∙ on.ready.best_width
           ∙ on.width;
       spent = λ begin len part. (
           let own = on.spent begin len part in
-          let spends = c.turn.ensures.own h entries p from (length h) begin len is after
+          let spends = c.step.ensures.own h entries p from (length h) begin len is after
           (starts_up_to is.inside (starts_at all h p)) on.coming part in
           record {
             tries =
@@ -66,32 +66,32 @@ returns-clause-on g c = λ s from p is on.
           });
     }
 
-pub turn-requires-clause-ready : goal.turn-requires-clause-ready
-turn-requires-clause-ready g c = c.requires.on.5.ready
+pub step-requires-clause-ready : goal.step-requires-clause-ready
+step-requires-clause-ready g c = c.requires.on.5.ready
 
 pub returns-clause-again : goal.returns-clause-again
-returns-clause-again g c = c.turn.ensures.again refl
+returns-clause-again g c = c.step.ensures.again refl
 
-pub returns-clause-hit : goal.returns-clause-hit
-returns-clause-hit g c = c.turn.ensures.hit
+pub returns-clause-match_flag : goal.returns-clause-match_flag
+returns-clause-match_flag g c = c.step.ensures.match_flag
 
 pub returns-clause-ends : goal.returns-clause-ends
-returns-clause-ends g c = c.turn.ensures.ends
+returns-clause-ends g c = c.step.ensures.ends
 
-pub turn-requires-clause-few_tries : goal.turn-requires-clause-few_tries
-turn-requires-clause-few_tries g c =
-    let told = c.requires.on in
+pub step-requires-clause-few_tries : goal.step-requires-clause-few_tries
+step-requires-clause-few_tries g c =
+    let reported = c.requires.on in
     let few = c.requires.all.few in
-    let fits = next_fits (length (chars c.args.haystack.now)) told.0 told.2
+    let fits = next_fits (length (chars c.args.haystack.now)) reported.0 reported.2
     (arrows_of (g.P.Patterns.table c.args.patterns.now)
     + length (g.P.Patterns.entries c.args.patterns.now)) (2 ^ 127)
-    (c.args.cache.now.walk.steps.tried + length c.args.cache.now.walk.memory.threads) told.5.low
-    told.3.inside told.4.tries told.5.tries in
+    (c.args.cache.now.walk.steps.tried + length c.args.cache.now.walk.memory.threads) reported.5.low
+    reported.3.inside reported.4.tries reported.5.tries in
     omega (arith, fits, few)
 
-pub turn-requires-clause-few_entries : goal.turn-requires-clause-few_entries
-turn-requires-clause-few_entries g c =
-    let told = c.requires.on in
-    next_fits (length (chars c.args.haystack.now)) told.0 told.2
+pub step-requires-clause-few_entries : goal.step-requires-clause-few_entries
+step-requires-clause-few_entries g c =
+    let reported = c.requires.on in
+    next_fits (length (chars c.args.haystack.now)) reported.0 reported.2
     (length (g.P.Patterns.table c.args.patterns.now)) (2 ^ 127) c.args.cache.now.walk.steps.entered
-    told.5.low told.3.inside told.4.entries told.5.entries_left
+    reported.5.low reported.3.inside reported.4.entries reported.5.entries_left

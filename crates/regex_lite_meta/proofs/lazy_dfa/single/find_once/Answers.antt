@@ -39,8 +39,8 @@ returns-in_default g c =
       width = sym c.advance-soon.ensures.between.best_width ∙ width;
     }
 
-pub find_learning-requires : goal.find_learning-requires
-find_learning-requires g c =
+pub find_by_new_dfa-requires : goal.find_by_new_dfa-requires
+find_by_new_dfa-requires g c =
     let s = position_at c.args.haystack.now c.args.start in
     let begun = begun _ _ _ s c.args.cache.now c.requires.fresh in
     let stops = c.in-Some.ensures.stops s s c.at-here.ensures.here begun in

@@ -3,7 +3,7 @@ use Rattle.regex_lite_meta.proofs.Common.{◌∙◌, arith, rules, places_of, be
 use Rattle.regex_lite_meta.proofs.Common.{◌≡◌, ◌∷◌, [], sym, subst}
 use Rattle.std.specs.Prelude.{◌↔◌, IsTrue, is_some}
 use Rattle.regex_lite_meta.specs.AnyOfOne.{HasMatchOfAny}
-use Rattle.regex_lite_meta.proofs.list_matches.ToldLemmas.{by_least_end}
+use Rattle.regex_lite_meta.proofs.list_matches.ReportedLemmas.{by_least_end}
 use Rattle.regex_lite_engine.proofs.search.OutcomeLemmas.{can_count}
 use Rattle.regex_lite_engine.proofs.search.here.HereLemmas.{less_left}
 use Rattle.regex_lite_engine.proofs.pikevm.PassLemmas.{begun, passed_as}
@@ -62,8 +62,8 @@ positions-smaller c =
     less_left c.args.haystack.now at.0 w.q c.positions.here c.next-here.result c.utf8.haystack at.1
     (c.next-here.ensures w.q w.is) w.later
 
-pub returns-then-is_done-clause-told : goal.returns-then-is_done-clause-told
-returns-then-is_done-clause-told c = λ p is.
+pub returns-then-is_done-clause-reported : goal.returns-then-is_done-clause-reported
+returns-then-is_done-clause-reported c = λ p is.
     let v = c.positions.invariant in
     let at = v.under_way p is in
     let w = passed_as (c.pass-here.ensures.table ∙ v.table)
@@ -72,16 +72,16 @@ returns-then-is_done-clause-told c = λ p is.
     let why = over_after {earliest = true} at.2.low (λ _. v.none)
     (c.is_done.ensures.done (search rules)) w in
     let best = best_of c.pass-here.new.self.best in
-    let told : c.is_some.result ≡ is_some best = search rules in
+    let reported : c.is_some.result ≡ is_some best = search rules in
     subst (λ b. IsTrue b ↔ HasMatchOfAny (places_of c.args.pattern.now.table.now)
-    (chars c.args.haystack.now) (c.args.pattern.now.entry ∷ []) p) (sym told)
+    (chars c.args.haystack.now) (c.args.pattern.now.entry ∷ []) p) (sym reported)
     (by_least_end (places_of c.args.pattern.now.table.now) (chars c.args.haystack.now)
     c.args.pattern.now.entry p best
     (over_found {p = at.0} {cache = c.positions.cache}
     (record { q = w.q + 1; on = w.after; why = why })))
 
-pub returns-then-threads-eq0-clause-told : goal.returns-then-threads-eq0-clause-told
-returns-then-threads-eq0-clause-told c = λ p is.
+pub returns-then-threads-eq0-clause-reported : goal.returns-then-threads-eq0-clause-reported
+returns-then-threads-eq0-clause-reported c = λ p is.
     let v = c.positions.invariant in
     let haystack = c.args.haystack.now in
     let table = places_of c.args.pattern.now.table.now in

@@ -1,8 +1,8 @@
 use Rattle.regex_lite_meta.proofs.Common.{[], chars, places_of, position_at, table_of_list, false}
 use Rattle.regex_lite_engine.specs.Search.NumberedOutcomes.{IsBestOutcomeTo, numbered_at}
-use Rattle.regex_lite_engine.specs.Search.NumberedOutcomes.{with_origin_kept}
+use Rattle.regex_lite_engine.specs.Search.NumberedOutcomes.{with_match_start_kept}
 use Rattle.regex_lite_meta.specs.Memories.{row_of_several}
-use Rattle.regex_lite_engine.proofs.search.ListAnchoredLemmas.{list_span_at_told}
+use Rattle.regex_lite_engine.proofs.search.ListAnchoredLemmas.{list_span_at_reported}
 use Rattle.regex_lite_meta.proofs.OneLemmas.{in_list, still_one}
 use Rattle.regex_lite_meta.proofs.list_searcher.GraphListSearcher.search_anchored.Goals as goal
 use Rattle.regex_lite_meta.proofs.list_searcher.GraphListSearcher.search_anchored.Goals.{
@@ -20,28 +20,28 @@ returns-clause-found c = λ trees regular is.
     elim c.match-self.branch [
       | in-One w ↦
           let row = w.find_anchored.new.self.memory.cache.best.row in
-          let told = w.numbered.result in
+          let reported = w.numbered.result in
           let one = w.pattern-pattern.result in
           let own = w.pattern-pattern.ensures in
           let alone = rw w.in-One.is at c.self.invariant in
           rw (w.result-is, w.self-inside-is)
-          (list_span_at_told false trees list of_list haystack c.args.start
+          (list_span_at_reported false trees list of_list haystack c.args.start
           c.if-start-haystack.false
-          regular told row
+          regular reported row
           (in_list list alone.0 alone.1 (places_of one.table.now) own.table one.entry own.entry
           (λ table entries. IsBestOutcomeTo table (chars haystack) entries s s
-          (with_origin_kept (numbered_at told row)))
+          (with_match_start_kept (numbered_at reported row)))
           (rw (w.numbered.ensures row) at w.find_anchored.ensures.found)))
       | in-Words w ↦
           let (answers, each) = rw w.in-Words.is at c.self.invariant in
           rw (w.result-is, w.self-inside-is)
-          (list_span_at_told false trees list of_list haystack c.args.start
+          (list_span_at_reported false trees list of_list haystack c.args.start
           c.if-start-haystack.false
           regular w.find_word_at.result []
           (w.find_word_at.ensures (table_of_list list) list.entries answers each))
       | in-Several w ↦
           rw (w.result-is, w.self-inside-is)
-          (list_span_at_told false trees list of_list haystack c.args.start
+          (list_span_at_reported false trees list of_list haystack c.args.start
           c.if-start-haystack.false
           regular w.find_anchored-in-Several.result
           (row_of_several w.find_anchored-in-Several.new.self)

@@ -1,12 +1,12 @@
 use Rattle.std.specs.Prelude.{◌↔◌, IsTrue}
 use Rattle.regex_lite_meta.proofs.Common.{[], chars, places_of, position_at, sym, ◌∙◌, subst}
-use Rattle.regex_lite_meta.proofs.Common.{best_told, table_of_list}
+use Rattle.regex_lite_meta.proofs.Common.{best_reported, table_of_list}
 use Rattle.regex_lite_engine.specs.Search.AnswerOfList.{AnyMatchesFrom}
 use Rattle.regex_lite_engine.specs.Search.NumberedWords.{AreAnsweredBy}
 use Rattle.regex_lite_syntax.specs.Prefilter.NumberedWords.{IsNextOfPatterns}
 use Rattle.regex_lite_engine.specs.Search.Offsets.{search_start}
-use Rattle.regex_lite_engine.proofs.search.ListOutcomeLemmas.{any_of_span, any_told}
-use Rattle.regex_lite_engine.proofs.search.ListOutcomeLemmas.{list_span_told}
+use Rattle.regex_lite_engine.proofs.search.ListOutcomeLemmas.{any_of_span, any_reported}
+use Rattle.regex_lite_engine.proofs.search.ListOutcomeLemmas.{list_span_reported}
 use Rattle.regex_lite_engine.proofs.nfa.BoundaryLemmas.{on_boundary}
 use Rattle.regex_lite_meta.specs.AnyOfOne.{HasMatchOfAny}
 use Rattle.regex_lite_meta.proofs.AnyLemmas.{any_of_trees}
@@ -45,7 +45,7 @@ returns-clause-found c = λ trees regular is.
           let next : IsNextOfPatterns words haystack c.args.start span =
           subst (λ bytes. IsNextOfPatterns words bytes c.args.start span)
           w.as_bytes.ensures.value w.find_span.ensures in
-          let outcome = list_span_told trees list of_list haystack c.args.start inside regular
+          let outcome = list_span_reported trees list of_list haystack c.args.start inside regular
           span []
           (answers haystack c.args.start span c.utf8.haystack
           (on_boundary _ _ c.requires inside) next) in
@@ -55,11 +55,11 @@ returns-clause-found c = λ trees regular is.
           (any_of_span trees regular haystack c.args.start [] span outcome)
       | in-Several w ↦
           let found = w.find_end.result in
-          let told = any_told trees list of_list haystack c.args.start inside regular
-          (best_told found) w.find_end.ensures.found in
+          let reported = any_reported trees list of_list haystack c.args.start inside regular
+          (best_reported found) w.find_end.ensures.found in
           subst (λ some. IsTrue some
           ↔ AnyMatchesFrom trees (chars haystack) (search_start haystack c.args.start))
-          (sym (w.result-is ∙ w.is_some-in-Several.ensures ∙ some_kept found [])) told
+          (sym (w.result-is ∙ w.is_some-in-Several.ensures ∙ some_kept found [])) reported
     ]
 
 pub invariant_of-self : goal.invariant_of-self

@@ -4,7 +4,7 @@ use Rattle.regex_lite_meta.proofs.Common.{best_kept, table_of_list, false}
 use Rattle.regex_lite_engine.specs.Search.AnswerAt.{AnyMatchesAt}
 use Rattle.regex_lite_engine.specs.Search.NumberedOutcomes.{IsAnyTo}
 use Rattle.regex_lite_engine.specs.Search.Offsets.{search_start}
-use Rattle.regex_lite_engine.proofs.search.ListAnchoredLemmas.{list_any_at_told}
+use Rattle.regex_lite_engine.proofs.search.ListAnchoredLemmas.{list_any_at_reported}
 use Rattle.regex_lite_meta.proofs.AnchoredSpanLemmas.{some_kept, any_of_word}
 use Rattle.regex_lite_meta.proofs.OneLemmas.{in_list, still_one}
 use Rattle.regex_lite_meta.proofs.list_searcher.GraphListSearcher.search_any_anchored.Goals as goal
@@ -31,25 +31,25 @@ returns-clause-found c = λ trees regular is.
           subst (λ some. IsTrue some
           ↔ AnyMatchesAt false trees (chars haystack) (search_start haystack c.args.start))
           (sym (w.result-is ∙ w.is_some.ensures ∙ some_kept found row))
-          (list_any_at_told false trees list of_list haystack c.args.start inside regular
+          (list_any_at_reported false trees list of_list haystack c.args.start inside regular
           (best_kept found row)
           (in_list list alone.0 alone.1 (places_of one.table.now) own.table one.entry own.entry
           (λ table entries. IsAnyTo table (chars haystack) entries false s s (best_kept found row))
           w.find_anchored.ensures.found))
       | in-Words w ↦
           let (answers, each) = rw w.in-Words.is at c.self.invariant in
-          let told = w.find_word_at.result in
+          let reported = w.find_word_at.result in
           subst (λ some. IsTrue some
           ↔ AnyMatchesAt false trees (chars haystack) (search_start haystack c.args.start))
           (sym (w.result-is ∙ w.is_some-in-Words.ensures))
-          (any_of_word trees list of_list haystack c.args.start inside regular told
+          (any_of_word trees list of_list haystack c.args.start inside regular reported
           (w.find_word_at.ensures (table_of_list list) list.entries answers each))
       | in-Several w ↦
           let found = w.find_any_anchored.result in
           subst (λ some. IsTrue some
           ↔ AnyMatchesAt false trees (chars haystack) (search_start haystack c.args.start))
           (sym (w.result-is ∙ w.is_some-in-Several.ensures ∙ some_kept found []))
-          (list_any_at_told false trees list of_list haystack c.args.start inside regular
+          (list_any_at_reported false trees list of_list haystack c.args.start inside regular
           (best_kept found []) (w.find_any_anchored.ensures.found []))
     ]
 

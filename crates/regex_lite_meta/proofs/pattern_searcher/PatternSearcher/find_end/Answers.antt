@@ -1,18 +1,18 @@
 use Rattle.regex_lite_meta.proofs.Common.{◌^◌, ◌<◌, length, refl, arith, rules}
-use Rattle.regex_lite_meta.proofs.Common.{places_of, best_of, best_told, position_at}
+use Rattle.regex_lite_meta.proofs.Common.{places_of, best_of, best_reported, position_at}
 use Rattle.regex_lite_engine.proofs.OffsetLemmas.{boundary_at}
 use Rattle.regex_lite_engine.proofs.pikevm.PassLemmas.{begun}
 use Rattle.regex_lite_engine.proofs.pikevm.StopLemmas.{over_found}
 use Rattle.regex_lite_engine.proofs.search.FirstStartLemmas.{first_here}
 use Rattle.regex_lite_engine.proofs.search.OutcomeLemmas.{can_count}
-use Rattle.regex_lite_meta.proofs.EndLemmas.{end_told, none_told}
+use Rattle.regex_lite_meta.proofs.EndLemmas.{end_reported, none_reported}
 use Rattle.regex_lite_meta.proofs.pattern_searcher.PatternSearcher.find_end.Goals as goal
 
 pub returns-in_err-first-clause-found : goal.returns-in_err-first-clause-found
 returns-in_err-first-clause-found c =
     let one = c.args.pattern.now in
     rw c.from_residual.ensures
-    (none_told (places_of one.table.now) c.args.haystack.now one.entry c.args.start
+    (none_reported (places_of one.table.now) c.args.haystack.now one.entry c.args.start
     (c.in_err-first.ensures.none refl))
 
 pub advance-requires-clause-on : goal.advance-requires-clause-on
@@ -44,7 +44,7 @@ returns-in_default-clause-found c =
     let found = over_found (rw (c.advance.ensures.all refl) at
     (c.advance.ensures.stops m m here (begun _ _ _ m c.restart.new.cache fresh))) in
     rw c.end.ensures
-    (end_told table haystack one.entry c.args.start c.utf8.haystack c.in_ok-first.first
+    (end_reported table haystack one.entry c.args.start c.utf8.haystack c.in_ok-first.first
     c.in_ok-first.ensures.first (best_of c.advance.new.cache.best) found)
 
 pub find-requires-clause-on : goal.find-requires-clause-on
@@ -73,5 +73,5 @@ returns-clause-found c =
     let table = places_of one.table.now in
     let haystack = c.args.haystack.now in
     rw c.end_of.ensures
-    (end_told table haystack one.entry c.args.start c.utf8.haystack c.in_ok-first.first
-    c.in_ok-first.ensures.first (best_told c.find.result) c.find.ensures.found)
+    (end_reported table haystack one.entry c.args.start c.utf8.haystack c.in_ok-first.first
+    c.in_ok-first.ensures.first (best_reported c.find.result) c.find.ensures.found)

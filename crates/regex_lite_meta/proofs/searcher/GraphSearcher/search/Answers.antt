@@ -1,6 +1,6 @@
 use Rattle.regex_lite_meta.proofs.Common.{arith}
 use Rattle.std.proofs.lemmas.Grind.{common_steps}
-use Rattle.regex_lite_engine.proofs.search.OutcomeLemmas.{span_told}
+use Rattle.regex_lite_engine.proofs.search.OutcomeLemmas.{span_reported}
 use Rattle.regex_lite_engine.proofs.nfa.BoundaryLemmas.{on_boundary}
 use Rattle.regex_lite_meta.proofs.searcher.GraphSearcher.search.Goals as goal
 
@@ -15,7 +15,7 @@ pub returns : goal.returns
 returns c = record {
   found = λ tree regular is.
       let own = c.pattern-pattern.ensures in
-      span_told tree regular c.args.graph.now is c.args.haystack.now c.args.start
+      span_reported tree regular c.args.graph.now is c.args.haystack.now c.args.start
       c.if-start-haystack.false c.find.result c.find.new.self.memory.cache.best.row
       (rw (own.table, own.entry) at c.find.ensures.found);
   searches =

@@ -2,7 +2,7 @@ use Rattle.regex_lite_meta.proofs.Common.{arith, chars, span_of}
 use Rattle.regex_lite_meta.proofs.Common.{places_of, position_at, [], ◌∷◌}
 use Rattle.std.specs.Prelude.{not, ◌==◌}
 use Rattle.std.proofs.lemmas.Grind.{common_steps}
-use Rattle.regex_lite_engine.proofs.search.AnchoredOutcomeLemmas.{span_at_told}
+use Rattle.regex_lite_engine.proofs.search.AnchoredOutcomeLemmas.{span_at_reported}
 use Rattle.regex_lite_meta.proofs.AnchoredSpanLemmas.{spanned_to}
 use Rattle.regex_lite_engine.proofs.nfa.BoundaryLemmas.{on_boundary}
 use Rattle.regex_lite_meta.proofs.searcher.GraphSearcher.search_anchored.Goals as goal
@@ -24,7 +24,7 @@ returns g c = record {
       let row = c.find_anchored.new.self.memory.cache.best.row in
       let one = c.pattern-pattern.result in
       rw c.span_of.ensures
-      (span_at_told (not (g.row.WHOLE == 0)) tree regular c.args.graph.now is haystack
+      (span_at_reported (not (g.row.WHOLE == 0)) tree regular c.args.graph.now is haystack
       c.args.start
       c.if-start-haystack.false (span_of c.find_anchored.result) row
       (rw (own.table, own.entry) at

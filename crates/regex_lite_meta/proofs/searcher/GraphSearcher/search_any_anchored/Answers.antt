@@ -4,7 +4,7 @@ use Rattle.std.specs.Prelude.{not, ◌==◌}
 use Rattle.regex_lite_engine.proofs.nfa.BoundaryLemmas.{on_boundary}
 use Rattle.regex_lite_engine.specs.Search.AnswerAt.{HasMatchAt}
 use Rattle.regex_lite_engine.specs.Search.Offsets.{search_start}
-use Rattle.regex_lite_engine.proofs.search.AnchoredOutcomeLemmas.{any_at_told}
+use Rattle.regex_lite_engine.proofs.search.AnchoredOutcomeLemmas.{any_at_reported}
 use Rattle.regex_lite_meta.proofs.AnchoredSpanLemmas.{some_kept}
 use Rattle.regex_lite_meta.proofs.searcher.GraphSearcher.search_any_anchored.Goals as goal
 
@@ -27,7 +27,7 @@ returns g c = record {
       ↔ HasMatchAt (not (g.row.WHOLE == 0)) tree (chars haystack)
       (search_start haystack c.args.start))
       (sym (c.is_some.ensures ∙ some_kept found row))
-      (any_at_told (not (g.row.WHOLE == 0)) tree regular c.args.graph.now is haystack
+      (any_at_reported (not (g.row.WHOLE == 0)) tree regular c.args.graph.now is haystack
       c.args.start
       c.if-start-haystack.false (best_kept found row)
       (rw (own.table, own.entry) at c.find_anchored.ensures.found));

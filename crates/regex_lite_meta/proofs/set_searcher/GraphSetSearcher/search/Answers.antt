@@ -13,9 +13,9 @@ returns-in-Some-clause-found c = λ trees regular is.
     let haystack = c.args.haystack.now in
     let start = c.args.start in
     let words = c.in-Some.words.now in
-    let told = c.which_stand.new.told in
+    let reported = c.which_stand.new.reported in
     let edge = on_boundary haystack start c.requires.start c.if-start-haystack.false in
-    let all : length told ≡ length list.entries = omega (
+    let all : length reported ≡ length list.entries = omega (
       arith,
       c.which_stand.ensures.length,
       c.fill.ensures.len,
@@ -23,7 +23,7 @@ returns-in-Some-clause-found c = λ trees regular is.
       ap (λ (l : StoredList). length l.entries) c.self.view_is,
     ) in
     at_position trees list of_list haystack start edge.0
-    (λ s. TellsWhich trees (chars haystack) s told)
-    (words_tell list haystack start c.utf8.haystack edge words c.in-Some.ensures.each told all
-    (subst (λ bytes. TellsWhichStand words bytes start told) c.as_bytes.ensures.value
-    c.which_stand.ensures.told) trees regular of_list)
+    (λ s. TellsWhich trees (chars haystack) s reported)
+    (words_tell list haystack start c.utf8.haystack edge words c.in-Some.ensures.each reported all
+    (subst (λ bytes. TellsWhichStand words bytes start reported) c.as_bytes.ensures.value
+    c.which_stand.ensures.reported) trees regular of_list)

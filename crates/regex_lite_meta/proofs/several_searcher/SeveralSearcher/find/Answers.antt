@@ -1,6 +1,6 @@
 use Rattle.regex_lite_meta.proofs.Common.{Some, chars, ◌∙◌, subst}
 use Rattle.regex_lite_meta.proofs.Common.{nil_from_length, table_of_list, position_at}
-use Rattle.regex_lite_meta.proofs.Common.{IsBestOutcomeOf, best_kept, best_told}
+use Rattle.regex_lite_meta.proofs.Common.{IsBestOutcomeOf, best_kept, best_reported}
 use Rattle.regex_lite_meta.proofs.several_searcher.SeveralSearcher.find.Goals as goal
 use Rattle.regex_lite_meta.proofs.several_searcher.SeveralSearcher.find.Goals.{After-deref_mut}
 
@@ -16,7 +16,7 @@ returns-in_default-clause-found c =
 -- where slots are searched for once the match is known, its search has kept none
 without_slots : (c : After-deref_mut) → IsBestOutcomeOf (table_of_list c.args.graph.now)
     (chars c.args.haystack.now) c.args.graph.now.entries
-    (position_at c.args.haystack.now c.args.start) (best_told (Some c.in_ok-found.found))
+    (position_at c.args.haystack.now c.args.start) (best_reported (Some c.in_ok-found.found))
 without_slots c =
     let list = c.args.graph.now in
     let before = rw c.in-Some.is at c.requires.searches.slots in

@@ -1,6 +1,6 @@
 use Rattle.regex_lite_meta.proofs.Common.{Some, [], chars, ◌∙◌, subst, sym}
 use Rattle.regex_lite_meta.proofs.Common.{nil_from_length, table_of_list, position_at}
-use Rattle.regex_lite_meta.proofs.Common.{best_kept, best_told}
+use Rattle.regex_lite_meta.proofs.Common.{best_kept, best_reported}
 use Rattle.regex_lite_engine.specs.Search.NumberedOutcomes.{IsBestOutcomeTo}
 use Rattle.regex_lite_syntax.proofs.OptionLemmas.{not_there}
 use Rattle.regex_lite_meta.proofs.AnchoredSpanLemmas.{from_to, still_to}
@@ -23,7 +23,7 @@ returns-in_default-clause-found c =
 without_slots : (c : After-deref_mut) → IsBestOutcomeTo (table_of_list c.args.graph.now)
     (chars c.args.haystack.now) c.args.graph.now.entries
     (position_at c.args.haystack.now c.args.start)
-    (position_at c.args.haystack.now c.args.start) (best_told (Some c.in_ok-found.found))
+    (position_at c.args.haystack.now c.args.start) (best_reported (Some c.in_ok-found.found))
 without_slots c =
     let list = c.args.graph.now in
     let s = position_at c.args.haystack.now c.args.start in
@@ -51,7 +51,7 @@ returns-clause-found c =
     let s = position_at haystack c.args.start in
     let own = without_slots (goal.at.returns-clause-found c).After-deref_mut in
     still_to (table_of_list list) (chars haystack) list.entries s s
-    (best_told (Some c.in_ok-found.found)) _ (λ none. not_there (sym none)) own
+    (best_reported (Some c.in_ok-found.found)) _ (λ none. not_there (sym none)) own
     (c.find_slots.ensures.found s
     (from_to (table_of_list list) (chars haystack) list.entries s s (Some c.in_ok-found.found) []
     (λ none. not_there (sym none)) own))

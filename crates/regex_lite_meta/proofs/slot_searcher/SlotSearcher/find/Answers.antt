@@ -39,7 +39,8 @@ module _ (graph : StoredGraph) (bytes : List ℕ) (span : ℕ × ℕ) (tree : Tr
       absurd (not_there (one_answer tree (chars bytes) regular from None (Some found)
       (answer_of_numbers tree (chars bytes) (table_of graph) graph.start is.name is.written is.start
       regular from None none) answer))
-  over_tree (slots, (found, answer, tells)) (Some told) row (second, numbered, begins, ends, held) =
+  over_tree (slots, (found, answer, tells)) (Some reported) row
+      (second, numbered, begins, ends, held) =
       let same = same_some (one_answer tree (chars bytes) regular from (Some second) (Some found)
       (answer_of_numbers tree (chars bytes) (table_of graph) graph.start is.name is.written is.start
       regular from (Some second) numbered) answer) in (
@@ -52,8 +53,8 @@ module _ (graph : StoredGraph) (bytes : List ℕ) (span : ℕ × ℕ) (tree : Tr
         },
       )
 
-pub find_known-requires-clause-known : goal.find_known-requires-clause-known
-find_known-requires-clause-known c =
+pub find_in_span-requires-clause-known : goal.find_in_span-requires-clause-known
+find_in_span-requires-clause-known c =
     let (tree, regular, is, (start, finds)) = c.requires.known in
     let own = c.pattern-pattern.ensures in (
       search_start c.args.haystack.now start,
@@ -62,8 +63,8 @@ find_known-requires-clause-known c =
           is start finds),
     )
 
-pub find_known-requires-clause-finds : goal.find_known-requires-clause-finds
-find_known-requires-clause-finds c = rw c.pattern-pattern.ensures.table c.requires.finds
+pub find_in_span-requires-clause-finds : goal.find_in_span-requires-clause-finds
+find_in_span-requires-clause-finds c = rw c.pattern-pattern.ensures.table c.requires.finds
 
 pub returns-clause-found : goal.returns-clause-found
 returns-clause-found c = λ tree regular is start finds.
@@ -71,6 +72,6 @@ returns-clause-found c = λ tree regular is start finds.
     let bytes = c.args.haystack.now in
     let own = c.pattern-pattern.ensures in
     over_tree graph bytes c.args.span tree regular is start finds
-    c.find_known.result c.find_known.new.self.cache.best.row
-    ((rw (own.table, own.entry) at c.find_known.ensures.found) (search_start bytes start)
+    c.find_in_span.result c.find_in_span.new.self.cache.best.row
+    ((rw (own.table, own.entry) at c.find_in_span.ensures.found) (search_start bytes start)
     (over_numbers graph bytes c.args.span tree regular is start finds))

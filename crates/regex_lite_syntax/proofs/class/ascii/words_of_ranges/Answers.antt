@@ -4,5 +4,5 @@ use Rattle.regex_lite_syntax.proofs.class.ascii.words_of_ranges.Goals as goal
 pub returns : goal.returns
 returns c d within =
     let bits = bits_of_words c.map_of_ranges-map.result d within in
-    let told = c.map_of_ranges-map.ensures d within in
+    let reported = c.map_of_ranges-map.ensures d within in
     cc

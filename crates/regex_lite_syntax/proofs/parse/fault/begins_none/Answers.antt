@@ -4,8 +4,8 @@ use Rattle.regex_lite_syntax.specs.FaultPlaces.{IsFaultAt}
 use Rattle.regex_lite_syntax.proofs.machine.FaultEndLemmas.{tree_goes_on}
 use Rattle.regex_lite_syntax.proofs.parse.fault.begins_none.Goals as goal
 
-pub returns-in-None-clause-told : goal.returns-in-None-clause-told
-returns-in-None-clause-told c =
+pub returns-in-None-clause-reported : goal.returns-in-None-clause-reported
+returns-in-None-clause-reported c =
     let flags = c.args.flags in
     let xs = c.args.chars.now in
     tree_goes_on flags xs (subst (λ found. MatchOption found (HasTree flags xs)

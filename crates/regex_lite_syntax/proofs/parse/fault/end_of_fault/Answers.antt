@@ -24,7 +24,7 @@ least_refused-requires-clause-none c =
           subst
           (λ b. MatchBool b (BeginsNone c.args.flags (take c.min-high.result c.args.chars.now))
           (BeginsSome c.args.flags (take c.min-high.result c.args.chars.now)))
-          w.if-branch.true w.in_ok-begins_none.ensures.told
+          w.if-branch.true w.in_ok-begins_none.ensures.reported
     ]
 
 pub returns-then-high-chars-clause-end : goal.returns-then-high-chars-clause-end

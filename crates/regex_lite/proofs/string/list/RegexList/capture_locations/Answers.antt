@@ -5,9 +5,9 @@ use Rattle.regex_lite.proofs.string.list.RegexList.capture_locations.Goals as go
 
 pub returns-clause-ok : goal.returns-clause-ok
 returns-clause-ok c =
-    let told = c.kept_slots.ensures in
-    let most = most_captures told.0 in
+    let reported = c.kept_slots.ensures in
+    let most = most_captures reported.0 in
     let count : c.max.result ≡ 2 * max 1 most =
-    c.max.ensures ∙ room_for_most most c.kept_slots.result told.2 in
+    c.max.ensures ∙ room_for_most most c.kept_slots.result reported.2 in
     let none : c.in_ok-slots.slots.items ≡ replicate c.max.result None = search rules in
-    (told.0, told.1, ap spans_of (none ∙ ap (λ n. replicate n None) count) ∙ no_spans _)
+    (reported.0, reported.1, ap spans_of (none ∙ ap (λ n. replicate n None) count) ∙ no_spans _)

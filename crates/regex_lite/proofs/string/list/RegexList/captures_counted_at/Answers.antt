@@ -1,44 +1,44 @@
 use Rattle.regex_lite.proofs.Common.{Some, chars, ap, IsOutcomeOfList, CompiledList}
 use Rattle.regex_lite.specs.Scanning.{TellsOutcomeOfList}
 use Rattle.regex_lite.proofs.string.ListSlotLemmas.{room_kept, room_whole}
-use Rattle.regex_lite.proofs.string.ListToldLemmas.{listed_way_told, outcome_of_list}
+use Rattle.regex_lite.proofs.string.ListReportedLemmas.{listed_way_reported, outcome_of_list}
 use Rattle.regex_lite.proofs.string.ListGroupLemmas.{groups_of_listed, listed_of_pattern}
 use Rattle.regex_lite_engine.proofs.laws.answer.AnswerAtLemmas.{way_of_found}
 use Rattle.regex_lite.proofs.string.list.RegexList.captures_counted_at.Goals as goal
 use Rattle.regex_lite.proofs.string.list.RegexList.captures_counted_at.Goals.{In-Some}
 
 -- what the search told of
-told : (c : In-Some)
+reported : (c : In-Some)
     → TellsOutcomeOfList c.args.self.now c.args.haystack.now c.args.start (Some c.in-Some.found)
-told c = (
+reported c = (
   c.self.invariant.trees,
   rw (← c.self.view_is) c.self.invariant.given,
   outcome_of_list c.self.inside.compiled c.self.invariant c.deref.result.now.graph
-      (λ trees. IsOutcomeOfList trees c.args.haystack.now c.args.start) c.in_ok-told.told
+      (λ trees. IsOutcomeOfList trees c.args.haystack.now c.args.start) c.in_ok-reported.reported
       c.in-Some.found (ap (λ (compiled : CompiledList). compiled.graph) c.deref.ensures)
-      c.in_ok-told.ensures.found c.in-Some.is,
+      c.in_ok-reported.ensures.found c.in-Some.is,
 )
 
 pub captured-requires : goal.captured-requires
 captured-requires c =
-    let own = c.in_ok-told in
+    let own = c.in_ok-reported in
     let count = c.kept_slots-count in
     record {
       found = (
-          let own = told (goal.at.captured-requires c).In-Some in
-          listed_way_told c.args.haystack.now c.utf8.haystack c.args.start c.args.self.now own.0
+          let own = reported (goal.at.captured-requires c).In-Some in
+          listed_way_reported c.args.haystack.now c.utf8.haystack c.args.start c.args.self.now own.0
           own.1
           c.in-Some.found.0 _ _ own.2);
       slots = rw c.in-Some.is at
-          (room_kept count.result c.args.self.now own.told own.ensures.slots count.ensures);
+          (room_kept count.result c.args.self.now own.reported own.ensures.slots count.ensures);
       whole = rw c.in-Some.is at
-          (room_whole count.result c.in_ok-whole.whole.items own.told own.ensures.slots
+          (room_whole count.result c.in_ok-whole.whole.items own.reported own.ensures.slots
           c.in_ok-whole.ensures);
     }
 
 pub returns-clause-found : goal.returns-clause-found
 returns-clause-found c =
-    let own = told (goal.at.returns-clause-found c).In-Some in
+    let own = reported (goal.at.returns-clause-found c).In-Some in
     let haystack = c.args.haystack.now in
     let answer = own.2.1 in
     let caps = c.in_ok-caps.ensures.found own.0 answer.tree own.2.0 own.1 answer.numbered

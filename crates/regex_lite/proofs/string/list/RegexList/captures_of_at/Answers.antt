@@ -9,7 +9,7 @@ use Rattle.regex_lite.proofs.string.list.RegexList.captures_of_at.Goals as goal
 use Rattle.regex_lite.proofs.string.list.RegexList.captures_of_at.Goals.{After-of_listed-source}
 
 -- the slots hold the groups that the search told of
-told : (c : After-of_listed-source)
+reported : (c : After-of_listed-source)
     → AreGroups
     (groups_of c.args.haystack.now c.slots_with-slots.result.items c.of_listed-source.result)
     × ((groups : Groups)
@@ -17,7 +17,7 @@ told : (c : After-of_listed-source)
     ≡ groups_of c.args.haystack.now c.slots_with-slots.result.items c.of_listed-source.result
     → OfPattern c.args.self.now c.args.number
     (λ re. TellsGroups re c.args.haystack.now c.args.start (Some groups)))
-told c =
+reported c =
     let list = c.args.self.now in
     let own = c.self.inside.compiled in
     let built = c.self.invariant in
@@ -28,12 +28,12 @@ told c =
     listed_groups list own built given number within c.args.haystack.now c.utf8.haystack
     c.args.start outcome
     (listed_outcome list own built given number within c.deref.result.now.graph c.args.haystack.now
-    c.args.start c.in_ok-told.told (Some outcome)
-    (ap (λ (compiled : CompiledList). compiled.graph) c.deref.ensures) c.in_ok-told.ensures.found
-    c.in-Some.is)
+    c.args.start c.in_ok-reported.reported (Some outcome)
+    (ap (λ (compiled : CompiledList). compiled.graph) c.deref.ensures)
+    c.in_ok-reported.ensures.found c.in-Some.is)
     (listed_slots list own built given number within c.slots_of.result c.kept_of-count.result
-    c.in_ok-told.told outcome c.slots_of.ensures c.kept_of-count.ensures c.in_ok-told.ensures.slots
-    c.in-Some.is)
+    c.in_ok-reported.reported outcome c.slots_of.ensures c.kept_of-count.ensures
+    c.in_ok-reported.ensures.slots c.in-Some.is)
     c.slots_with-slots.result.items c.slots_with-slots.ensures c.of_listed-source.result
     (c.of_listed-source.ensures
     ∙ ap (λ (compiled : CompiledList). groups_at compiled.graph.groups number)
@@ -59,11 +59,11 @@ of_listed-source-requires c =
     built.groups (there list own built given number within)).0
 
 pub new-caps-requires : goal.new-caps-requires
-new-caps-requires c = (told (goal.at.new-caps-requires c).After-of_listed-source).0
+new-caps-requires c = (reported (goal.at.new-caps-requires c).After-of_listed-source).0
 
 pub returns-clause-found : goal.returns-clause-found
 returns-clause-found c =
-    (told (goal.at.returns-clause-found c).After-of_listed-source).1 c.new-caps.result
+    (reported (goal.at.returns-clause-found c).After-of_listed-source).1 c.new-caps.result
     c.new-caps.ensures
 
 pub returns-clause-of_match : goal.returns-clause-of_match
@@ -80,6 +80,6 @@ returns-in_default-clause-found c =
     listed_none list own built given c.args.number c.requires.number
     (λ tree. AreGroupsOf tree c.args.haystack.now) c.args.haystack.now c.args.start
     (listed_outcome list own built given c.args.number c.requires.number c.deref.result.now.graph
-    c.args.haystack.now c.args.start c.in_ok-told.told None
+    c.args.haystack.now c.args.start c.in_ok-reported.reported None
     (ap (λ (compiled : CompiledList). compiled.graph) c.deref.ensures)
-    c.in_ok-told.ensures.found c.in_default.is)
+    c.in_ok-reported.ensures.found c.in_default.is)

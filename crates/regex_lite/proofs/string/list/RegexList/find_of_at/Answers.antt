@@ -9,10 +9,10 @@ given : (c : In-Some) → AreTrees c.args.self.now c.self.invariant.trees
 given c = rw (← c.self.view_is) c.self.invariant.given
 
 -- what the search told of
-told : (c : In-Some) → IsOutcome
+reported : (c : In-Some) → IsOutcome
     (tree_at c.args.self.now c.self.inside.compiled c.self.invariant (given c) c.args.number
     c.requires.number) c.args.haystack.now c.args.start (Some c.in-Some.outcome)
-told c =
+reported c =
     listed_outcome c.args.self.now c.self.inside.compiled c.self.invariant (given c) c.args.number
     c.requires.number c.deref.result.now.graph c.args.haystack.now c.args.start
     c.in_ok-outcome.field-0 (Some c.in-Some.outcome)
@@ -31,14 +31,14 @@ new-found-requires c =
     let own = (goal.at.new-found-requires c).In-Some in
     listed_span own.args.self.now own.self.inside.compiled own.self.invariant (given own)
     own.args.number own.requires.number own.args.haystack.now c.utf8.haystack own.args.start
-    own.in-Some.outcome (told own)
+    own.in-Some.outcome (reported own)
 
 pub returns-clause-found : goal.returns-clause-found
 returns-clause-found c =
     let own = (goal.at.returns-clause-found c).In-Some in
     listed_match own.args.self.now own.self.inside.compiled own.self.invariant (given own)
     own.args.number own.requires.number own.args.haystack.now c.utf8.haystack own.args.start
-    own.in-Some.outcome (told own) c.new-found.result c.new-found.ensures.haystack
+    own.in-Some.outcome (reported own) c.new-found.result c.new-found.ensures.haystack
     c.new-found.ensures.span
 
 pub returns-in_default-clause-found : goal.returns-in_default-clause-found

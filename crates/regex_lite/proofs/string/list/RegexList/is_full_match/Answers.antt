@@ -1,13 +1,13 @@
 use Rattle.regex_lite.proofs.Common.{inr, IsCharBoundary-start}
 use Rattle.regex_lite.proofs.Common.{sym, ap, subst, IsGraphOfList, CompiledList}
-use Rattle.regex_lite.proofs.string.WholeLemmas.{any_told_whole}
+use Rattle.regex_lite.proofs.string.WholeLemmas.{any_reported_whole}
 use Rattle.regex_lite.proofs.string.list.RegexList.is_full_match.Goals as goal
 
 pub returns-clause-found : goal.returns-clause-found
 returns-clause-found c =
     let built = c.self.invariant in
     let graph = ap (λ (compiled : CompiledList). compiled.graph) c.deref.ensures in
-    any_told_whole c.args.haystack.now c.utf8.haystack c.args.self.now
+    any_reported_whole c.args.haystack.now c.utf8.haystack c.args.self.now
     c.in_ok-found.found (
       built.trees,
       rw (← c.self.view_is) built.given,

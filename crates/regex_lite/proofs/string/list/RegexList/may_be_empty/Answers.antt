@@ -1,7 +1,7 @@
 use Rattle.regex_lite.proofs.Common.{◌≡◌, AreTrees}
 use Rattle.std.specs.Prelude.{not}
 use Rattle.regex_lite_syntax.specs.Tree.Properties.{nullable}
-use Rattle.regex_lite.proofs.OneTreeLemmas.{empty_told}
+use Rattle.regex_lite.proofs.OneTreeLemmas.{empty_reported}
 use Rattle.regex_lite.proofs.string.ListedLemmas.{has_reading, listed_tree, there, tree_at}
 use Rattle.regex_lite.proofs.string.list.RegexList.may_be_empty.Goals as goal
 
@@ -23,4 +23,4 @@ returns c =
     let reads = built.reads.each number tree c.reads.result
     (there list own built given number c.requires) (rw (← c.deref.ensures) c.reads.ensures) in
     listed_tree list own built given number c.requires (λ tree. not c.reads.result ≡ nullable tree)
-    (empty_told c.reads.result (nullable tree) reads)
+    (empty_reported c.reads.result (nullable tree) reads)

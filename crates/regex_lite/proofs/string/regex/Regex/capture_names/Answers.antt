@@ -7,7 +7,7 @@ returns c =
     let built = c.self.invariant in
     let names = ap (λ items. map (option_map rc_str_bytes) items)
     (rw c.deref.ensures at c.capture_names.ensures) in
-    let told =
+    let reported =
     are_names _ c.self.inside.compiled.graph.capture_names built.tree (c.new.ensures ∙ names)
     built.regular built.groups.captures built.groups.names in
-    (built.tree, rw (← c.self.view_is) built.given, told)
+    (built.tree, rw (← c.self.view_is) built.given, reported)

@@ -1,14 +1,15 @@
 use Rattle.regex_lite.proofs.Common.{Some, sym, ap, subst, chars, search_start, IsGraphOf, OfTree}
 use Rattle.regex_lite_engine.proofs.laws.answer.AnswerAtLemmas.{way_of_found}
 use Rattle.regex_lite_engine.specs.Search.Outcomes.{IsOutcome}
-use Rattle.regex_lite.proofs.string.ToldLemmas.{outcome_of, room_of_whole, slots_are, way_told}
+use Rattle.regex_lite.proofs.string.ReportedLemmas.{outcome_of, room_of_whole, slots_are}
+use Rattle.regex_lite.proofs.string.ReportedLemmas.{way_reported}
 use Rattle.regex_lite.proofs.string.regex.Regex.captures_counted_at.Goals as goal
 use Rattle.regex_lite.proofs.string.regex.Regex.captures_counted_at.Goals.{In-Some}
 
 -- what the search told of
-told : (c : In-Some) → OfTree c.args.self.now
+reported : (c : In-Some) → OfTree c.args.self.now
     (λ tree. IsOutcome tree c.args.haystack.now c.args.start (Some c.in-Some.outcome))
-told c =
+reported c =
     outcome_of c.args.self.now c.self.inside.compiled c.self.invariant c.deref.result.now.graph
     (λ tree. IsOutcome tree c.args.haystack.now c.args.start) c.in_ok-outcome.outcome
     c.in-Some.outcome (rw (← c.self.view_is) c.self.invariant.given)
@@ -19,9 +20,9 @@ captured-requires c =
     let count = c.kept_slots-count in
     let outcome = c.in_ok-outcome in
     record {
-      outcome = way_told c.args.haystack.now c.utf8.haystack c.args.start c.args.self.now
+      outcome = way_reported c.args.haystack.now c.utf8.haystack c.args.start c.args.self.now
           (c.in-Some.outcome.start, c.in-Some.outcome.end) c.in-Some.outcome.slots.items
-          (told (goal.at.captured-requires c).In-Some);
+          (reported (goal.at.captured-requires c).In-Some);
       slots = slots_are c.args.self.now outcome.outcome c.in-Some.outcome count.result
           count.ensures outcome.ensures.slots c.in-Some.is;
       whole = room_of_whole outcome.outcome c.in-Some.outcome count.result
@@ -30,7 +31,7 @@ captured-requires c =
 
 pub returns-clause-found : goal.returns-clause-found
 returns-clause-found c =
-    let (tree, given, (found, is, tells)) = told (goal.at.returns-clause-found c).In-Some in (
+    let (tree, given, (found, is, tells)) = reported (goal.at.returns-clause-found c).In-Some in (
       tree,
       given,
       (
@@ -48,7 +49,7 @@ pub returns-clause-of_match : goal.returns-clause-of_match
 returns-clause-of_match c = record {
   haystack = c.args.haystack.now;
   start = c.args.start;
-  told = returns-clause-found c;
+  reported = returns-clause-found c;
 }
 
 pub returns-clause-cost : goal.returns-clause-cost

@@ -1,13 +1,13 @@
 use Rattle.regex_lite.proofs.Common.{inr, IsCharBoundary-start}
 use Rattle.regex_lite.proofs.Common.{sym, ap, subst, IsGraphOf}
-use Rattle.regex_lite.proofs.string.WholeLemmas.{has_told_whole}
+use Rattle.regex_lite.proofs.string.WholeLemmas.{has_reported_whole}
 use Rattle.regex_lite.proofs.string.regex.Regex.is_full_match.Goals as goal
 
 pub returns-clause-found : goal.returns-clause-found
 returns-clause-found c =
     let built = c.self.invariant in
     let graph = ap (λ compiled. compiled.graph) c.deref.ensures in
-    has_told_whole c.args.haystack.now c.utf8.haystack c.args.self.now c.in_ok-found.found (
+    has_reported_whole c.args.haystack.now c.utf8.haystack c.args.self.now c.in_ok-found.found (
       built.tree,
       rw (← c.self.view_is) built.given,
       c.in_ok-found.ensures.found built.tree built.regular

@@ -3,5 +3,5 @@ use Rattle.regex_lite.proofs.string.regex.Regex.kept_slots.Goals as goal
 
 pub returns : goal.returns
 returns c =
-    let told = c.slots.ensures in
-    (told.0, told.1, c.kept_of.ensures (captures_len told.0) told.2)
+    let reported = c.slots.ensures in
+    (reported.0, reported.1, c.kept_of.ensures (captures_len reported.0) reported.2)

@@ -19,5 +19,5 @@ returns-clause-told c =
     ) in
     record {
       each = λ groups are. static_number c.args.self.now are.haystack are.start
-          c.static_captures_len.result (Some groups) groups known are.told refl;
+          c.static_captures_len.result (Some groups) groups known are.reported refl;
     }

@@ -1,6 +1,6 @@
 use Rattle.regex_lite.proofs.Common.{◌≡◌, length, Some, sym, subst, chars, Expression, TellsMatch}
 use Rattle.regex_lite.proofs.Common.{TellsLocations, IsMatchOf, spans_from}
-use Rattle.regex_lite.proofs.string.AnchoredLemmas.{told_from, told_there}
+use Rattle.regex_lite.proofs.string.AnchoredLemmas.{reported_from, reported_there}
 use Rattle.regex_lite.proofs.string.regex_searcher.RegexSearcher.captures_read_anchored_at.Goals as goal
 
 pub read-requires-clause-found : goal.read-requires-clause-found
@@ -10,7 +10,7 @@ read-requires-clause-found c =
       a.start,
       subst (λ (re : Expression). TellsMatch re a.haystack.now a.start (Some found))
           (sym c.find_anchored_at.ensures.same)
-          (told_from (λ tree. IsMatchOf a.haystack.now) a.self.now a.haystack.now a.start found
+          (reported_from (λ tree. IsMatchOf a.haystack.now) a.self.now a.haystack.now a.start found
           c.in_ok-found.ensures.found),
     )
 
@@ -20,10 +20,10 @@ returns-clause-found c =
     let found = c.in_ok-found.found in
     let at = c.in_ok-found.ensures.found in
     let spans = c.read.new.locs in
-    let from = told_from (λ tree. IsMatchOf a.haystack.now) a.self.now a.haystack.now a.start found
-    at in
+    let from = reported_from (λ tree. IsMatchOf a.haystack.now) a.self.now a.haystack.now a.start
+    found at in
     let same = c.find_anchored_at.ensures.same in
-    told_there (λ tree found m. IsMatchOf a.haystack.now found m
+    reported_there (λ tree found m. IsMatchOf a.haystack.now found m
     × (spans ≡ spans_from (chars a.haystack.now) found.marks 0 (length spans))) a.self.now
     a.haystack.now a.start found (at.0, at.1, (at.2.0, at.2.1))
     (subst (λ (re : Expression). TellsLocations re a.haystack.now a.start spans (Some found)) same

@@ -7,11 +7,11 @@ use Rattle.regex_lite.proofs.string.KeptLemmas.{room_read, slots_found, slots_of
 use Rattle.regex_lite.proofs.string.KeptLemmas.{still_searches}
 use Rattle.regex_lite_meta.specs.Searching.{FindsSpan}
 use Rattle.regex_lite.proofs.string.SlotLemmas.{resized_few}
-use Rattle.regex_lite.proofs.string.ToldLemmas.{same_pair}
+use Rattle.regex_lite.proofs.string.ReportedLemmas.{same_pair}
 use Rattle.regex_lite.proofs.string.regex_searcher.RegexSearcher.read.Goals as goal
 
 pub returns-in_default-clause-locations : goal.returns-in_default-clause-locations
-returns-in_default-clause-locations c = λ start told.
+returns-in_default-clause-locations c = λ start reported.
     let a = c.args in
     let re = a.self.now in
     let bytes = a.haystack.now in
@@ -19,12 +19,12 @@ returns-in_default-clause-locations c = λ start told.
     let only = subst (λ (re : Expression). SearchesForGroups re None) c.self.view_is
     (subst (SearchesForGroups c.self.inside.matches.regex) c.in_default.is c.self.invariant) in
     let slots = all_slots [] (span_of_match m) in
-    let held = slots_of_whole re bytes c.utf8.haystack start m told in
+    let held = slots_of_whole re bytes c.utf8.haystack start m reported in
     let enough : OfTree re (λ tree. length slots ≡ 2 * captures_len tree) =
     (only.0, only.1, ap (λ n. 2 * n) (sym only.2)) in
-    let few = room_read re bytes c.utf8.haystack start m told slots held enough a.locs.now
+    let few = room_read re bytes c.utf8.haystack start m reported slots held enough a.locs.now
     c.requires.few in
-    locations_read re bytes c.utf8.haystack start m told slots held enough (length a.locs.now)
+    locations_read re bytes c.utf8.haystack start m reported slots held enough (length a.locs.now)
     c.write.new.self (c.write.ensures.spans
     ∙ resized_few (length a.locs.now) (Some (c.start.result, c.end.result) ∷ []) few
     ∙ ap (λ (span : ℕ × ℕ). take (length a.locs.now) (Some span ∷ []))
@@ -33,18 +33,19 @@ returns-in_default-clause-locations c = λ start told.
 pub read-requires-clause-known : goal.read-requires-clause-known
 read-requires-clause-known c =
     let a = c.args in
-    let told = c.requires.found in
+    let reported = c.requires.found in
     let own =
     subst (λ (re : Expression). SearchesForGroups re (Some c.in-Some.groups)) c.self.view_is
     (subst (SearchesForGroups c.self.inside.matches.regex) c.in-Some.is c.self.invariant) in
-    let finds = finds_span a.self.now a.haystack.now c.utf8.haystack told.0 a.found.now told.1 in
+    let finds = finds_span a.self.now a.haystack.now c.utf8.haystack reported.0 a.found.now
+    reported.1 in
     subst (λ (re : Expression). OfTree re (λ tree. (start : ℕ) × FindsSpan tree a.haystack.now start
     (c.start-2.result, c.end-2.result))) (sym own.0) (
       finds.0,
       finds.1,
       (
-        told.0,
-        subst (FindsSpan finds.0 a.haystack.now told.0)
+        reported.0,
+        subst (FindsSpan finds.0 a.haystack.now reported.0)
             (sym (same_pair c.start-2.ensures c.end-2.ensures)) finds.2,
       ),
     )
@@ -64,7 +65,7 @@ invariant_of-self-2 c =
     c.read.ensures.slots
 
 pub returns-clause-locations : goal.returns-clause-locations
-returns-clause-locations c = λ start told.
+returns-clause-locations c = λ start reported.
     let a = c.args in
     let re = a.self.now in
     let bytes = a.haystack.now in
@@ -74,7 +75,7 @@ returns-clause-locations c = λ start told.
     let own =
     subst (λ (re : Expression). SearchesForGroups re (Some c.in-Some.groups)) c.self.view_is
     (subst (SearchesForGroups c.self.inside.matches.regex) c.in-Some.is c.self.invariant) in
-    let finds = finds_span re bytes c.utf8.haystack start m told in
+    let finds = finds_span re bytes c.utf8.haystack start m reported in
     let there = subst (λ (r : Expression). OfTree r (λ tree. FindsSpan tree bytes start span))
     (sym own.0) (
       finds.0,
@@ -85,7 +86,7 @@ returns-clause-locations c = λ start told.
     let outcome = subst (λ (r : Expression). OfTree r
     (λ tree. IsSpanOutcome tree bytes start slots (Some span))) own.0
     (c.read.ensures.found start there) in
-    let held = slots_found re bytes c.utf8.haystack start m told slots span outcome in
-    locations_read re bytes c.utf8.haystack start m told slots held
+    let held = slots_found re bytes c.utf8.haystack start m reported slots span outcome in
+    locations_read re bytes c.utf8.haystack start m reported slots held
     (own.1.0, own.1.1, c.read.ensures.slots ∙ own.1.2) (length a.locs.now)
     c.read.new.locs c.read.ensures.spans

@@ -3,7 +3,7 @@ use Rattle.regex_lite_engine.specs.Graph.Stored.{StoredGraph}
 use Rattle.regex_lite_meta.specs.Searching.{SearchesGraph, row_of_graph}
 use Rattle.regex_lite.specs.Scanning.{TellsSpan}
 use Rattle.regex_lite.proofs.string.LawfulLemmas.{regex_lawful}
-use Rattle.regex_lite.proofs.string.ToldLemmas.{of_held, span_told}
+use Rattle.regex_lite.proofs.string.ReportedLemmas.{of_held, span_reported}
 use Rattle.regex_lite.proofs.string.searcher.SearcherFinds.find_at.Goals as goal
 
 pub returns-in_err-span-clause-found : goal.returns-in_err-span-clause-found
@@ -29,7 +29,7 @@ returns-clause-found c =
     let span = c.in_ok-span.span in
     subst (λ (own : RegexSearching). TellsSpan own.regex a.haystack.now a.start slots
     (Some (tt {0}, span))) c.self.view_is
-    (span_told a.haystack.now c.utf8.haystack a.start regex span slots
+    (span_reported a.haystack.now c.utf8.haystack a.start regex span slots
     (of_held c.self.inside.regex c.graph.ensures.built c.graph.result.now c.graph.ensures.same _
     c.in_ok-span.ensures.found))
 

@@ -1,7 +1,7 @@
 use Rattle.regex_lite_engine.proofs.Common.{◌≡◌, ℕ, ◌+◌, ◌-◌, ◌*◌, ◌≤◌, false, length}
 use Rattle.regex_lite_engine.proofs.Common.{replicate, None, sum_by, sym, ap, ◌∙◌, IsCharBoundary}
 use Rattle.regex_lite_engine.proofs.Common.{subst, arith, mul-le-mul_left, length-map, IsBlank}
-use Rattle.regex_lite_engine.proofs.Common.{length-replicate, kept_back_with, place_of, places_of}
+use Rattle.regex_lite_engine.proofs.Common.{length-replicate, stack_bound_with, place_of, places_of}
 use Rattle.regex_lite_engine.proofs.search.MarkLemmas.{blank_row}
 use Rattle.regex_lite_engine.proofs.backtrack.short.ShortSearcher.restart.Goals as goal
 
@@ -22,7 +22,7 @@ returns-clause-fresh c =
     let width : length c.clear.new.self.row ≡ length old.row
     = ap length row ∙ length-replicate (length old.row) None in
     let room : c.clear.new.self.room ≡ old.room = ap (λ held. held.room) c.clear.ensures in
-    let kept : ℕ = sum_by (kept_back_with (length old.row)) table in
+    let kept : ℕ = sum_by (stack_bound_with (length old.row)) table in
     let fits : kept * offsets ≤ kept * a.self.now.offsets
     = mul-le-mul_left kept (omega (arith, c.requires.short)) in
     record {
@@ -37,7 +37,7 @@ returns-clause-fresh c =
       none = none;
       frames = ap (λ held. held.frames) c.clear.ensures;
       blank = subst IsBlank (sym row) (blank_row (length old.row));
-      room = subst (λ (z : ℕ). sum_by (kept_back_with z) table * offsets ≤ c.clear.new.self.room)
+      room = subst (λ (z : ℕ). sum_by (stack_bound_with z) table * offsets ≤ c.clear.new.self.room)
           (sym width) (omega (arith, room, fits, c.requires.searches.room));
       tried = c.no_steps-self.ensures.tried;
       entered = c.no_steps-self.ensures.entered;
@@ -60,7 +60,7 @@ returns-clause-searches c =
     = ap (λ held. held.room) c.clear.ensures in
     let pairs : c.restart.new.self.room ≡ old.walk.visited.room = c.restart.ensures.room in
     record {
-      room = subst (λ (z : ℕ). sum_by (kept_back_with z) table * old.offsets
+      room = subst (λ (z : ℕ). sum_by (stack_bound_with z) table * old.offsets
           ≤ c.clear.new.self.room) (sym width) (omega (arith, room, c.requires.searches.room));
       pairs = omega (arith, pairs, c.requires.searches.pairs);
       countable = c.requires.searches.countable;

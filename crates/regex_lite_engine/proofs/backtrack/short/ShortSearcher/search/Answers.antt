@@ -1,5 +1,5 @@
 use Rattle.regex_lite_engine.proofs.Common.{◌≡◌, ℕ, ◌*◌, ◌^◌, ◌<◌, ◌≤◌, length, sum_by}
-use Rattle.regex_lite_engine.proofs.Common.{sym, subst, arith, rules, kept_back_with, places_of}
+use Rattle.regex_lite_engine.proofs.Common.{sym, subst, arith, rules, stack_bound_with, places_of}
 use Rattle.regex_lite_engine.proofs.Common.{position_at}
 use Rattle.regex_lite_engine.specs.Backtrack.Searching.{IsFresh}
 use Rattle.regex_lite_engine.proofs.search.OutcomeLemmas.{can_count}
@@ -26,7 +26,7 @@ returns-clause-searches c =
     let width : length c.run.new.walk.stack.row ≡ length between.walk.stack.row
     = c.run.ensures.width in
     record {
-      room = subst (λ (z : ℕ). sum_by (kept_back_with z) table * between.offsets
+      room = subst (λ (z : ℕ). sum_by (stack_bound_with z) table * between.offsets
           ≤ c.run.new.walk.stack.room) (sym width)
           (omega (arith, c.run.ensures.room, ready.room));
       pairs = omega (arith, c.run.ensures.pairs, ready.pairs);

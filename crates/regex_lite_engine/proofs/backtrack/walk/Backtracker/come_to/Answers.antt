@@ -4,7 +4,7 @@ use Rattle.regex_lite_engine.proofs.Common.{length-map, was_entered, with_arrows
 use Rattle.regex_lite_engine.proofs.Common.{places_of, LeadsBelow}
 use Rattle.regex_lite_engine.specs.declared.backtrack.walk.Backtracker.{Backtracker}
 use Rattle.regex_lite_engine.specs.Backtrack.Machine.{completes, end_at, explore, onto}
-use Rattle.regex_lite_engine.specs.Backtrack.Room.{with_frames, Went}
+use Rattle.regex_lite_engine.specs.Backtrack.Capacity.{with_frames, Went}
 use Rattle.regex_lite_engine.proofs.backtrack.LeadsLemmas.{entered_at, leads_entered, leads_passed}
 use Rattle.regex_lite_engine.proofs.backtrack.LeftLemmas.{pair_inside}
 use Rattle.regex_lite_engine.proofs.backtrack.WentLemmas.{enter_room, entered_again, same_walk}

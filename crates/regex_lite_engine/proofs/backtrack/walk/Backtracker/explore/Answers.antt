@@ -1,12 +1,12 @@
 use Rattle.regex_lite_engine.proofs.Common.{◌≡◌, ℕ, List, [], ◌∷◌, length, Some, None, sym, refl}
-use Rattle.regex_lite_engine.proofs.Common.{ap, subst, arith, Unwinds, places_of, StaysCounted}
+use Rattle.regex_lite_engine.proofs.Common.{ap, subst, arith, Restores, places_of, StaysCounted}
 use Rattle.regex_lite_engine.specs.Graph.Places.{Place}
 use Rattle.regex_lite_engine.specs.declared.backtrack.walk.Backtracker.{Backtracker}
 use Rattle.regex_lite_engine.specs.Backtrack.Machine.{completes, explore}
-use Rattle.regex_lite_engine.specs.Backtrack.Room.{with_frames, GoesOn, HasRoom}
+use Rattle.regex_lite_engine.specs.Backtrack.Capacity.{with_frames, GoesOn, HasCapacity}
 use Rattle.regex_lite_engine.specs.Backtrack.Searching.{Explores}
 use Rattle.regex_lite_engine.proofs.backtrack.ExploreLemmas.{ended, found, goes_further, went_back}
-use Rattle.regex_lite_engine.proofs.backtrack.UnwindLemmas.{slots_below}
+use Rattle.regex_lite_engine.proofs.backtrack.RestoreLemmas.{slots_below}
 use Rattle.regex_lite_engine.proofs.search.CountLemmas.{counted_at_first, still_counted}
 use Rattle.regex_lite_engine.proofs.backtrack.walk.Backtracker.explore.Goals as goal
 
@@ -28,7 +28,7 @@ ways-init g c =
     ap (λ fs. explore a.entry a.start ∷ fs) (sym c.requires.empty) in
     let first = with_frames w (explore a.entry a.start ∷ []) in
     record {
-      room = subst (λ fs. HasRoom t h w fs) at_start c.requires.room;
+      room = subst (λ fs. HasCapacity t h w fs) at_start c.requires.room;
       on = subst (λ fs. GoesOn t h first (with_frames w fs) None) at_start (stays t h first);
       counts = counted_at_first;
     }
@@ -89,7 +89,7 @@ returns-in_err-place-in-Back-clause-explored g c =
     let first = with_frames a.self.now (explore a.entry a.start ∷ []) in
     let went = rw c.in-Back.is at c.come_to.ensures.taken in
     let u = c.go_back.new.self in let e = c.go_back.ensures in
-    let back = subst (λ n. Unwinds v.stack.row v.stack.frames n u.stack.row u.stack.frames)
+    let back = subst (λ n. Restores v.stack.row v.stack.frames n u.stack.row u.stack.frames)
     c.in_err-place-in-Back.was e.back in
     subst (λ r. Explores t h a.entry a.start a.self.now u r) (sym c.from_residual.ensures)
     (ended t h a.self.now v u a.entry a.start
@@ -104,7 +104,7 @@ ways-smaller g c =
     let u = c.go_back.new.self in let e = c.go_back.ensures in let left = c.in_ok-place-in-Back in
     let less = went.less refl in
     let back = went_back t h v u (Some (left.field-0-0, left.field-0-1))
-    (subst (λ n. Unwinds v.stack.row v.stack.frames n u.stack.row u.stack.frames) left.was e.back)
+    (subst (λ n. Restores v.stack.row v.stack.frames n u.stack.row u.stack.frames) left.was e.back)
     e.same e.row e.room (went.fit refl) in
     omega (arith, less, back.less)
 
@@ -117,7 +117,7 @@ ways-preserved g c =
     let went = rw c.in-Back.is at c.come_to.ensures.taken in
     let u = c.go_back.new.self in let e = c.go_back.ensures in let left = c.in_ok-place-in-Back in
     let back = went_back t h v u (Some (left.field-0-0, left.field-0-1))
-    (subst (λ n. Unwinds v.stack.row v.stack.frames n u.stack.row u.stack.frames) left.was e.back)
+    (subst (λ n. Restores v.stack.row v.stack.frames n u.stack.row u.stack.frames) left.was e.back)
     e.same e.row e.room (went.fit refl) in
     record {
       room = back.fit;

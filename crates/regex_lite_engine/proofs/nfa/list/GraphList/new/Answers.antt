@@ -9,9 +9,9 @@ use Rattle.regex_lite_engine.specs.Search.Filters.{own_facts_of}
 use Rattle.regex_lite_engine.proofs.nfa.list.TableLemmas.{closed, name, written, entered}
 use Rattle.regex_lite_engine.proofs.nfa.list.TableLemmas.{entries_inside, parted, entry_for_each}
 use Rattle.regex_lite_engine.proofs.nfa.list.TableLemmas.{few_entries}
-use Rattle.regex_lite_engine.proofs.nfa.ListWordLemmas.{told_of_words}
-use Rattle.regex_lite_engine.proofs.nfa.WayLemmas.{listed_ends, listed_filters, listed_heads}
-use Rattle.regex_lite_engine.proofs.nfa.WayLemmas.{listed_needed, listed_reads}
+use Rattle.regex_lite_engine.proofs.nfa.ListWordLemmas.{reported_of_words}
+use Rattle.regex_lite_engine.proofs.nfa.WayLemmas.{listed_ends, listed_filters, listed_needed}
+use Rattle.regex_lite_engine.proofs.nfa.WayLemmas.{listed_prefixes, listed_reads}
 use Rattle.regex_lite_engine.proofs.nfa.write.SeveralRowLemmas.{arrows_add_up}
 use Rattle.regex_lite_engine.proofs.nfa.list.GraphList.new.Goals as goal
 
@@ -66,11 +66,11 @@ invariant_of-result c =
         few_entries trees regular places table_is entries entries_are,
         c.in_ok-totals.ensures.ok.places,
       ),
-      listed_heads trees regular (name trees regular places table_is)
+      listed_prefixes trees regular (name trees regular places table_is)
           (places_of c.new-table.result) entries (written trees regular places table_is)
           (entered trees regular places table_is entries entries_are)
-          (ap length entries_are ∙ entry_for_each trees 0) c.in_ok-heads.heads
-          c.in_ok-heads.ensures.ok,
+          (ap length entries_are ∙ entry_for_each trees 0) c.in_ok-prefixes.prefixes
+          c.in_ok-prefixes.ensures.ok,
       listed_filters trees regular (name trees regular places table_is)
           (places_of c.new-table.result) entries (written trees regular places table_is)
           (entered trees regular places table_is entries entries_are)
@@ -88,7 +88,7 @@ invariant_of-result c =
           (c.in_ok-at_end.ensures
           ∙ ap (λ n. filter (may_be_empty trees) (range_with_len 0 n))
           (sym (length-map c.args.hirs.now tree_of))),
-      told_of_words trees regular (name trees regular places table_is)
+      reported_of_words trees regular (name trees regular places table_is)
           (places_of c.new-table.result) entries (written trees regular places table_is)
           (entered trees regular places table_is entries entries_are)
           (ap length entries_are ∙ entry_for_each trees 0) (λ words. words.value)

@@ -1,6 +1,6 @@
 use Rattle.regex_lite_engine.proofs.Common.{◌^◌, ◌<◌, length, arith, rules}
 use Rattle.regex_lite_engine.proofs.Common.{position_at}
-use Rattle.regex_lite_engine.proofs.search.ListOutcomeLemmas.{cost_of_list, outcome_told}
+use Rattle.regex_lite_engine.proofs.search.ListOutcomeLemmas.{cost_of_list, outcome_reported}
 use Rattle.std.proofs.lemmas.Grind.{common_steps}
 use Rattle.regex_lite_engine.proofs.nfa.BoundaryLemmas.{on_boundary}
 use Rattle.regex_lite_engine.proofs.nfa.list.GraphList.search.Goals as goal
@@ -19,9 +19,9 @@ run-requires c = record {
 
 pub returns-clause-found : goal.returns-clause-found
 returns-clause-found c = λ trees regular is.
-    outcome_told trees c.args.self.now is c.args.haystack.now c.args.start
+    outcome_reported trees c.args.self.now is c.args.haystack.now c.args.start
     (omega (arith, c.if-start-haystack.false)) regular c.into_numbered.result
-    (rw (c.in_ok-patterns.ensures.list, c.into_numbered.ensures.told) at c.run.ensures.found)
+    (rw (c.in_ok-patterns.ensures.list, c.into_numbered.ensures.reported) at c.run.ensures.found)
 
 pub returns-clause-cost : goal.returns-clause-cost
 returns-clause-cost c = λ trees is.

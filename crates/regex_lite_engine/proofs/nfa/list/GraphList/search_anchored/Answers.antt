@@ -1,7 +1,7 @@
 use Rattle.regex_lite_engine.proofs.Common.{◌^◌, ◌<◌, length, arith, rules}
 use Rattle.regex_lite_engine.proofs.Common.{position_at}
 use Rattle.std.specs.Prelude.{not, ◌==◌}
-use Rattle.regex_lite_engine.proofs.search.ListAnchoredLemmas.{list_outcome_at_told}
+use Rattle.regex_lite_engine.proofs.search.ListAnchoredLemmas.{list_outcome_at_reported}
 use Rattle.regex_lite_engine.proofs.search.ListOutcomeLemmas.{cost_of_list}
 use Rattle.std.proofs.lemmas.Grind.{common_steps}
 use Rattle.regex_lite_engine.proofs.nfa.BoundaryLemmas.{on_boundary}
@@ -21,10 +21,10 @@ run_anchored-requires g c = record {
 
 pub returns-clause-found : goal.returns-clause-found
 returns-clause-found g c = λ trees regular is.
-    list_outcome_at_told (not (g.row.WHOLE == 0)) trees c.args.self.now is c.args.haystack.now
+    list_outcome_at_reported (not (g.row.WHOLE == 0)) trees c.args.self.now is c.args.haystack.now
     c.args.start
     (omega (arith, c.if-start-haystack.false)) regular c.into_numbered.result
-    (rw (c.in_ok-patterns.ensures.list, c.into_numbered.ensures.told) at
+    (rw (c.in_ok-patterns.ensures.list, c.into_numbered.ensures.reported) at
     c.run_anchored.ensures.found)
 
 pub returns-clause-cost : goal.returns-clause-cost

@@ -2,7 +2,7 @@ use Rattle.regex_lite_engine.proofs.Common.{◌^◌, ◌<◌, ◌↔◌, length,
 use Rattle.regex_lite_engine.proofs.Common.{◌∙◌, subst, arith, rules}
 use Rattle.regex_lite_engine.proofs.Common.{best_of, AnyMatchesFrom, position_at, search_start}
 use Rattle.regex_lite_engine.proofs.Common.{false, option_map}
-use Rattle.regex_lite_engine.proofs.search.ListOutcomeLemmas.{cost_of_list, any_told}
+use Rattle.regex_lite_engine.proofs.search.ListOutcomeLemmas.{cost_of_list, any_reported}
 use Rattle.std.proofs.lemmas.Grind.{common_steps}
 use Rattle.regex_lite_engine.proofs.nfa.BoundaryLemmas.{on_boundary}
 use Rattle.regex_lite_engine.proofs.nfa.list.GraphList.search_any.Goals as goal
@@ -25,19 +25,19 @@ returns c = record {
       let list = c.args.self.now in
       let haystack = c.args.haystack.now in
       let best = best_of c.run.new.cache.best in
-      let told = any_told trees list is haystack c.args.start
+      let reported = any_reported trees list is haystack c.args.start
       (omega (arith, c.if-start-haystack.false)) regular best
       (rw c.in_ok-patterns.ensures.list at c.run.ensures.found) in
       subst (λ found. IsTrue found
       ↔ AnyMatchesFrom trees (chars haystack) (search_start haystack c.args.start))
-      (sym (c.is_some.ensures ∙ ap is_some c.end.ensures)) told;
+      (sym (c.is_some.ensures ∙ ap is_some c.end.ensures)) reported;
   cost = λ trees is.
       cost_of_list trees c.args.self.now is c.args.haystack.now c.args.start
       (omega (arith, c.if-start-haystack.false)) c.run.new.cache.walk.steps
       (rw c.in_ok-patterns.ensures.list at c.run.ensures.bounded);
-  entered = λ told. c.run.ensures.entry (λ none. (
+  entered = λ reported. c.run.ensures.entry (λ none. (
       let is : IsTrue false = subst IsTrue (c.is_some.ensures ∙ ap is_some c.end.ensures
-      ∙ ap (λ best. is_some (option_map (λ z. z.1) best)) none) told in
+      ∙ ap (λ best. is_some (option_map (λ z. z.1) best)) none) reported in
       cc));
 }
 

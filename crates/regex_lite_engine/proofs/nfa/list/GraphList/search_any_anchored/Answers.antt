@@ -5,7 +5,7 @@ use Rattle.regex_lite_engine.proofs.Common.{false, option_map}
 use Rattle.std.specs.Prelude.{not, ◌==◌}
 use Rattle.regex_lite_engine.specs.Search.AnswerAt.{AnyMatchesAt}
 use Rattle.regex_lite_engine.proofs.pikevm.AnchoredLemmas.{some_end}
-use Rattle.regex_lite_engine.proofs.search.ListAnchoredLemmas.{list_any_at_told}
+use Rattle.regex_lite_engine.proofs.search.ListAnchoredLemmas.{list_any_at_reported}
 use Rattle.regex_lite_engine.proofs.search.ListOutcomeLemmas.{cost_of_list}
 use Rattle.std.proofs.lemmas.Grind.{common_steps}
 use Rattle.regex_lite_engine.proofs.nfa.BoundaryLemmas.{on_boundary}
@@ -29,20 +29,20 @@ returns g c = record {
       let list = c.args.self.now in
       let haystack = c.args.haystack.now in
       let best = best_of c.run_anchored.new.cache.best in
-      let told = list_any_at_told (not (g.row.WHOLE == 0)) trees list is haystack c.args.start
-      (omega (arith, c.if-start-haystack.false)) regular best
+      let reported = list_any_at_reported (not (g.row.WHOLE == 0)) trees list is haystack
+      c.args.start (omega (arith, c.if-start-haystack.false)) regular best
       (rw c.in_ok-patterns.ensures.list at c.run_anchored.ensures.found) in
       subst (λ found. IsTrue found
       ↔ AnyMatchesAt (not (g.row.WHOLE == 0)) trees (chars haystack)
       (search_start haystack c.args.start))
-      (sym (c.is_some.ensures ∙ ap is_some c.end.ensures ∙ some_end best)) told;
+      (sym (c.is_some.ensures ∙ ap is_some c.end.ensures ∙ some_end best)) reported;
   cost = λ trees is.
       cost_of_list trees c.args.self.now is c.args.haystack.now c.args.start
       (omega (arith, c.if-start-haystack.false)) c.run_anchored.new.cache.walk.steps
       (rw c.in_ok-patterns.ensures.list at c.run_anchored.ensures.bounded);
-  entered = λ told. c.run_anchored.ensures.entry (λ none. (
+  entered = λ reported. c.run_anchored.ensures.entry (λ none. (
       let is : IsTrue false = subst IsTrue (c.is_some.ensures ∙ ap is_some c.end.ensures
-      ∙ ap (λ best. is_some (option_map (λ z. z.1) best)) none) told in
+      ∙ ap (λ best. is_some (option_map (λ z. z.1) best)) none) reported in
       cc));
 }
 

@@ -6,8 +6,8 @@ use Rattle.regex_lite_engine.proofs.nfa.list.GraphList.search_memory.Goals as go
 pub returns-clause-counts : goal.returns-clause-counts
 returns-clause-counts g c = λ haystack s utf8 short.
     let list = c.args.self.now in
-    let told = c.entries-entries.ensures in
-    let few : length list.entries < 2 ^ 32 = omega (arith, told.few, ap length told.same) in
+    let reported = c.entries-entries.ensures in
+    let few : length list.entries < 2 ^ 32 = omega (arith, reported.few, ap length reported.same) in
     can_count (table_of_list list) haystack s utf8 short
     (rw (ap places_of c.table.ensures.same) at c.in_ok-cache.ensures.countable)
     (length list.entries) few

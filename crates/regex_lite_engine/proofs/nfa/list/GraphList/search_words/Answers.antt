@@ -5,9 +5,10 @@ use Rattle.regex_lite_engine.proofs.Common.{slice_get_within}
 use Rattle.std.specs.List.{All}
 use Rattle.regex_lite_syntax.specs.Prefilter.NumberedWords.{IsNextOfPatterns}
 use Rattle.regex_lite_engine.specs.Search.NumberedOutcomes.{IsBestOutcomeOf, numbered_at}
-use Rattle.regex_lite_engine.specs.Search.NumberedOutcomes.{with_origin_kept}
+use Rattle.regex_lite_engine.specs.Search.NumberedOutcomes.{with_match_start_kept}
 use Rattle.regex_lite_engine.proofs.PositionLemmas.{position_is}
-use Rattle.regex_lite_engine.proofs.search.ListOutcomeLemmas.{cost_of_list, has_place, outcome_told}
+use Rattle.regex_lite_engine.proofs.search.ListOutcomeLemmas.{cost_of_list, has_place}
+use Rattle.regex_lite_engine.proofs.search.ListOutcomeLemmas.{outcome_reported}
 use Rattle.regex_lite_engine.proofs.search.WordSearchLemmas.{entered, one_entry}
 use Rattle.regex_lite_engine.proofs.nfa.list.GraphList.search_words.Goals as goal
 
@@ -19,7 +20,7 @@ returns-in-None-clause-found c = λ trees regular is.
     let next : IsNextOfPatterns words bytes start None =
     subst (λ bs. IsNextOfPatterns words bs start None) c.as_bytes.ensures.value
     c.in-None.ensures in
-    outcome_told trees c.args.self.now is bytes start c.requires.boundary.0 regular None
+    outcome_reported trees c.args.self.now is bytes start c.requires.boundary.0 regular None
     (c.in_ok-words.ensures.next bytes start None c.utf8.haystack c.requires.boundary next)
 
 pub returns-in-Some : goal.returns-in-Some
@@ -29,28 +30,29 @@ returns-in-Some c =
     let bytes = c.args.haystack.now in
     let start = c.args.start in
     let s = position_at bytes start in
-    let told : ℕ × (ℕ × ℕ) = (c.in-Some.number, (c.in-Some.from, c.in-Some.end)) in
-    let next : IsNextOfPatterns c.in_ok-words.words.now bytes start (Some told) =
-    subst (λ bs. IsNextOfPatterns c.in_ok-words.words.now bs start (Some told))
+    let reported : ℕ × (ℕ × ℕ) = (c.in-Some.number, (c.in-Some.from, c.in-Some.end)) in
+    let next : IsNextOfPatterns c.in_ok-words.words.now bytes start (Some reported) =
+    subst (λ bs. IsNextOfPatterns c.in_ok-words.words.now bs start (Some reported))
     c.as_bytes.ensures.value c.in-Some.ensures in
     let answer : IsBestOutcomeOf table (chars bytes) list.entries s
-    (with_origin_kept (numbered_at (Some told) [])) =
-    c.in_ok-words.ensures.next bytes start (Some told) c.utf8.haystack c.requires.boundary next in
+    (with_match_start_kept (numbered_at (Some reported) [])) =
+    c.in_ok-words.ensures.next bytes start (Some reported) c.utf8.haystack c.requires.boundary
+    next in
     let some : 0 < length list.entries =
     let within = slice_get_within list.entries answer.0 answer.2.entry answer.2.is_entry in
     omega (arith, within) in
     let inside : start ≤ length bytes = c.requires.boundary.0 in
     let steps = c.steps_of_match.result in
     let row : IsBestOutcomeOf table (chars bytes) list.entries s
-    (with_origin_kept (numbered_at (Some told) c.new.result.items)) =
+    (with_match_start_kept (numbered_at (Some reported) c.new.result.items)) =
     subst (λ row. IsBestOutcomeOf table (chars bytes) list.entries s
-    (with_origin_kept (numbered_at (Some told) row))) (sym c.new.ensures.items) answer in
+    (with_match_start_kept (numbered_at (Some reported) row))) (sym c.new.ensures.items) answer in
     let places : 0 < length table =
     has_place (length table) list.entries
     (subst (All (λ entry. entry < length table)) c.entries-entries.ensures.same
     c.entries-entries.ensures.inside) some in
     record {
-      found = λ trees regular is. outcome_told trees list is bytes start inside regular
+      found = λ trees regular is. outcome_reported trees list is bytes start inside regular
           (Some (
             c.in-Some.number,
             record {

@@ -3,7 +3,7 @@ use Rattle.regex_lite_engine.proofs.Common.{sym, ap, ◌∙◌, subst, arith, le
 use Rattle.regex_lite_engine.proofs.Common.{map-append, Tree, tree_of}
 use Rattle.regex_lite_syntax.specs.Prefilter.StartFacts.{AreFactsOfTree, StartFacts}
 use Rattle.regex_lite_engine.specs.Search.Filters.{own_facts_of}
-use Rattle.regex_lite_syntax.proofs.LookupLemmas.{mapped_there, told_more}
+use Rattle.regex_lite_syntax.proofs.LookupLemmas.{mapped_there, reported_more}
 use Rattle.regex_lite_engine.proofs.nfa.list.facts.filters_of.Goals as goal
 
 pub loop-hir-preserved : goal.loop-hir-preserved
@@ -16,8 +16,8 @@ loop-hir-preserved c =
     let there = mapped_there tree_of hirs k hir c.loop-hir-test.true c.hir-item.is in
     let before = c.loop-hir.filters.items in
     let made = c.in_ok-filter_of.field-0 in
-    let heads = map own_facts_of before in
-    let next : slice_get trees (length heads) ≡ Some (tree_of hir) =
+    let prefixes = map own_facts_of before in
+    let next : slice_get trees (length prefixes) ≡ Some (tree_of hir) =
     ap (slice_get trees) (length-map before own_facts_of ∙ v.all) ∙ there in
     let pushed = c.in_ok-push.ensures.items in
     let mapped = ap (map own_facts_of) pushed ∙ map-append own_facts_of before (made ∷ []) in
@@ -26,6 +26,6 @@ loop-hir-preserved c =
       each = subst (λ (list : List StartFacts). (number : ℕ) (tree : Tree) (part : StartFacts)
           → slice_get trees number ≡ Some tree → slice_get list number ≡ Some part
           → AreFactsOfTree tree part) (sym mapped)
-          (told_more AreFactsOfTree trees heads (tree_of hir) (own_facts_of made) next
+          (reported_more AreFactsOfTree trees prefixes (tree_of hir) (own_facts_of made) next
           (rw (← c.hir.ensures) c.in_ok-filter_of.ensures) v.each);
     }

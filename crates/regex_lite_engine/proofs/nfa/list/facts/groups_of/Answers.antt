@@ -3,7 +3,7 @@ use Rattle.regex_lite_engine.proofs.Common.{slice_get, Some, sym, ap, ◌∙◌,
 use Rattle.regex_lite_engine.proofs.Common.{length-append, tree_of, whole_places}
 use Rattle.regex_lite_engine.specs.Graph.StoredList.{TellGroupsOf, StoredGroups, TellsGroupsOf}
 use Rattle.std.proofs.Math.ListN.{get_or-map}
-use Rattle.regex_lite_syntax.proofs.LookupLemmas.{mapped_there, told_more}
+use Rattle.regex_lite_syntax.proofs.LookupLemmas.{mapped_there, reported_more}
 use Rattle.regex_lite_engine.proofs.nfa.list.facts.groups_of.Goals as goal
 
 pub of-requires-clause-few : goal.of-requires-clause-few
@@ -38,6 +38,6 @@ loop-hir-preserved c =
         v.all,
       );
       each = subst (λ groups. TellGroupsOf trees groups) (sym {A = List StoredGroups} pushed)
-          (told_more TellsGroupsOf trees before (tree_of hir) c.in_ok-of.field-0 next
+          (reported_more TellsGroupsOf trees before (tree_of hir) c.in_ok-of.field-0 next
           (rw (← c.hir.ensures) c.in_ok-of.ensures) v.each);
     }

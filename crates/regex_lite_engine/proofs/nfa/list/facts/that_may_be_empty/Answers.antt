@@ -6,7 +6,7 @@ use Rattle.std.proofs.Common.{cond}
 use Rattle.regex_lite_engine.proofs.Common.{append-nil, refl}
 use Rattle.std.specs.List.{filter}
 use Rattle.regex_lite_syntax.proofs.LookupLemmas.{mapped_there}
-use Rattle.regex_lite_syntax.proofs.prefilter.list_heads.NumberLemmas.{filter_parts}
+use Rattle.regex_lite_syntax.proofs.prefilter.prefix_index.NumberLemmas.{filter_parts}
 use Rattle.regex_lite_engine.specs.Search.Starts.{may_be_empty}
 use Rattle.regex_lite_engine.proofs.nfa.WayLemmas.{empty_at}
 use Rattle.regex_lite_engine.proofs.nfa.list.facts.that_may_be_empty.Goals as goal

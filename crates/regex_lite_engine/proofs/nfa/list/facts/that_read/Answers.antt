@@ -2,7 +2,7 @@ use Rattle.std.specs.Prelude.{not}
 use Rattle.regex_lite_engine.proofs.Common.{◌≡◌, ℕ, Bool, nullable, List, [], ◌∷◌, map, length}
 use Rattle.regex_lite_engine.proofs.Common.{slice_get, Some, sym, ap, ◌∙◌, subst, arith, tree_of}
 use Rattle.regex_lite_engine.proofs.Common.{length-append, length-map, Tree}
-use Rattle.regex_lite_syntax.proofs.LookupLemmas.{mapped_there, told_more}
+use Rattle.regex_lite_syntax.proofs.LookupLemmas.{mapped_there, reported_more}
 use Rattle.regex_lite_engine.proofs.nfa.list.facts.that_read.Goals as goal
 
 pub loop-hir-preserved : goal.loop-hir-preserved
@@ -20,11 +20,11 @@ loop-hir-preserved c =
     let pushed = c.in_ok-push.ensures.items in
     record {
       all = omega (arith, ap length pushed, length-append before (made ∷ []), v.all);
-      each = subst (λ (list : List Bool). (number : ℕ) (tree : Tree) (told : Bool)
-          → slice_get trees number ≡ Some tree → slice_get list number ≡ Some told
-          → told ≡ not (nullable tree)) (sym pushed)
-          (told_more (λ tree told. told ≡ not (nullable tree)) trees before (tree_of hir) made next
-          (ap not c.counts.ensures.properties.nullable) v.each);
+      each = subst (λ (list : List Bool). (number : ℕ) (tree : Tree) (reported : Bool)
+          → slice_get trees number ≡ Some tree → slice_get list number ≡ Some reported
+          → reported ≡ not (nullable tree)) (sym pushed)
+          (reported_more (λ tree reported. reported ≡ not (nullable tree)) trees before
+          (tree_of hir) made next (ap not c.counts.ensures.properties.nullable) v.each);
     }
 
 pub returns : goal.returns

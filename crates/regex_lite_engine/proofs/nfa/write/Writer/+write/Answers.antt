@@ -13,7 +13,7 @@ use Rattle.regex_lite_syntax.proofs.hir.Hir.TheLaws.{the_size}
 use denote.Param.Weighed.{at_most}
 use Rattle.std.proofs.Common.{Result, Ok, Err, IfOk}
 use Rattle.std.proofs.lemmas.Grind.{common_steps}
-use Rattle.regex_lite_engine.proofs.nfa.write.RoomLemmas.{endless_room, star_room}
+use Rattle.regex_lite_engine.proofs.nfa.write.CapacityLemmas.{endless_room, star_room}
 use Rattle.regex_lite_engine.proofs.nfa.write.WrittenOverLemmas.{loop_written}
 use Rattle.regex_lite_syntax.proofs.LeafLemmas.{tree_is-Empty, tree_is-Char, tree_is-Class}
 use Rattle.regex_lite_syntax.proofs.LeafLemmas.{tree_is-Look, tree_is-Capture, tree_is-Repetition}

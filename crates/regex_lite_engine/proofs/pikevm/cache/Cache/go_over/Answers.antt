@@ -10,23 +10,23 @@ returns-clause-on g c haystack s last p is are on =
     let table = g.P.Patterns.table a.patterns.now in
     let entries = g.P.Patterns.entries a.patterns.now in
     let old = a.self.now in
-    let new = c.turn.new.self in
+    let new = c.step.new.self in
     let low = on.low in
-    let tries = c.turn.ensures.tries in
+    let tries = c.step.ensures.tries in
     let few = c.requires.few in
     record {
       low = omega (arith, low);
-      ready = c.turn.ensures.ready;
-      coming = c.turn.ensures.comes haystack entries p s last is low are on.coming;
+      ready = c.step.ensures.ready;
+      coming = c.step.ensures.comes haystack entries p s last is low are on.coming;
       tries = bound_on table haystack entries s
           (old.walk.steps.tried + length old.walk.memory.threads)
           (new.walk.steps.tried + length new.walk.memory.threads) p p
           (arrows_of table + length entries) low (omega arith) on.tries (omega (arith, tries, few));
       entries = bound_on table haystack entries s old.walk.steps.entered new.walk.steps.entered p p
-          (length table) low (omega arith) on.entries c.turn.ensures.entries;
+          (length table) low (omega arith) on.entries c.step.ensures.entries;
       own = λ begin len part. (
           let spent = on.own begin len part in
-          let spends = c.turn.ensures.own haystack entries p s last begin len is low are on.coming
+          let spends = c.step.ensures.own haystack entries p s last begin len is low are on.coming
           part in
           record {
             tries = bound_on table haystack entries s
@@ -40,8 +40,8 @@ returns-clause-on g c haystack s last p is are on =
           });
     }
 
-pub turn-requires-clause-few_ways : goal.turn-requires-clause-few_ways
-turn-requires-clause-few_ways g c =
+pub step-requires-clause-few_ways : goal.step-requires-clause-few_ways
+step-requires-clause-few_ways g c =
     let starts = c.requires.few in
     let few = c.requires.countable in
     omega (arith, c.threads-threads.ensures.few, c.threads-threads.ensures.same, starts, few)
@@ -52,8 +52,8 @@ one_more a m n left le before all =
     let most : m * n ≤ m * left = mul-le-mul_left m le in
     omega (arith, most, before, all)
 
-pub turn-requires-clause-few_tries : goal.turn-requires-clause-few_tries
-turn-requires-clause-few_tries g c =
+pub step-requires-clause-few_tries : goal.step-requires-clause-few_tries
+step-requires-clause-few_tries g c =
     let a = c.args in
     let (haystack, s, last, p, is, counts, on) = c.requires.on in
     let table = g.P.Patterns.table a.patterns.now in
@@ -64,13 +64,13 @@ turn-requires-clause-few_tries g c =
     on.tries counts.tries in
     omega (arith, most, c.requires.few)
 
-pub turn-requires-clause-few_entries : goal.turn-requires-clause-few_entries
-turn-requires-clause-few_entries g c =
+pub step-requires-clause-few_entries : goal.step-requires-clause-few_entries
+step-requires-clause-few_entries g c =
     let (haystack, s, last, p, is, counts, on) = c.requires.on in
     let table = g.P.Patterns.table c.args.patterns.now in
     let inside = is.inside in
     one_more c.args.self.now.walk.steps.entered (length table) (p - s)
     (characters_left haystack s) (omega (arith, inside)) on.entries counts.entries
 
-pub turn-requires-clause-ready : goal.turn-requires-clause-ready
-turn-requires-clause-ready g c = c.requires.on.6.ready
+pub step-requires-clause-ready : goal.step-requires-clause-ready
+step-requires-clause-ready g c = c.requires.on.6.ready

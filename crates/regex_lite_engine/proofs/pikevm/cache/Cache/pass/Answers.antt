@@ -2,7 +2,7 @@ use Rattle.regex_lite_engine.proofs.Common.{length, chars}
 use Rattle.regex_lite_engine.proofs.Common.{best_of}
 use Rattle.regex_lite_engine.specs.Pikevm.Passing.{IsUnderWay, GoesOnAt}
 use Rattle.regex_lite_engine.proofs.pikevm.PassLemmas.{onward, moved_on}
-use Rattle.regex_lite_engine.proofs.pikevm.TurnLemmas.{starts_up_to}
+use Rattle.regex_lite_engine.proofs.pikevm.SteppingLemmas.{starts_up_to}
 use Rattle.regex_lite_engine.proofs.pikevm.cache.Cache.pass.Goals as goal
 
 pub next_start-here-requires : goal.next_start-here-requires

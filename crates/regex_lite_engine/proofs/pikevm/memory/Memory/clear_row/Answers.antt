@@ -11,7 +11,7 @@ returns g c =
     let i = c.self.inside in let v = c.self.view_is in let fit = c.self.invariant in
     let blank : Row = replicate (length (nth_row i.rows 0)) None in
     let some : 0 < length i.rows = omega (arith, fit.rows_fit) in
-    stands_put g.S.Beginning.told i v fit blank c.clear.ensures
+    stands_put g.S.ThreadStart.reported i v fit blank c.clear.ensures
     (first_put i.rows c.clear.new.self blank c.clear.ensures some
     ∙ ap (λ (z : State). replicate (length z.row) None) v)
 

@@ -10,7 +10,7 @@ use Rattle.regex_lite_engine.proofs.pikevm.memory.Memory.load.Goals as goal
 pub row_of-requires : goal.row_of-requires
 row_of-requires g c =
     let i = c.self.inside in let fit = c.self.invariant in
-    let count = (counted g.S.Beginning.told i c.self.view_is fit).2 in
+    let count = (counted g.S.ThreadStart.reported i c.self.view_is fit).2 in
     let short : c.args.k < length i.cells.items =
     omega (arith, c.requires, count, fit.threads_fit) in
     omega
@@ -19,35 +19,35 @@ row_of-requires g c =
 pub copy-requires-clause-from : goal.copy-requires-clause-from
 copy-requires-clause-from g c =
     let i = c.self.inside in let fit = c.self.invariant in
-    let count = (counted g.S.Beginning.told i c.self.view_is fit).2 in
+    let count = (counted g.S.ThreadStart.reported i c.self.view_is fit).2 in
     let k_fits : c.args.k < i.room = omega (arith, c.requires, count, fit.threads_few) in
     omega (arith, row_fits i.side i.room c.args.k k_fits, fit.rows_fit, c.row_of.ensures)
 
 pub index-requires : goal.index-requires
 index-requires g c =
     let i = c.self.inside in let fit = c.self.invariant in
-    let count = (counted g.S.Beginning.told i c.self.view_is fit).2 in
+    let count = (counted g.S.ThreadStart.reported i c.self.view_is fit).2 in
     omega (arith, c.requires, count, fit.threads_fit, i.cells.ok.0)
 
 pub returns-clause-thread : goal.returns-clause-thread
 returns-clause-thread g c =
     let i = c.self.inside in let v = c.self.view_is in let fit = c.self.invariant in
-    let count = (counted g.S.Beginning.told i v fit).2 in
+    let count = (counted g.S.ThreadStart.reported i v fit).2 in
     let some : 0 < length i.rows = omega (arith, fit.rows_fit) in
     let row =
     first_put i.rows c.copy.new.self (nth_row i.rows c.row_of.result) c.copy.ensures.copied some
     ∙ ap (nth_row i.rows) c.row_of.ensures in
-    let thread = thread_read g.S.Beginning.told i.side i.cells.items i.rows i.room
+    let thread = thread_read g.S.ThreadStart.reported i.side i.cells.items i.rows i.room
     (omega (arith, c.requires, count)) (omega (arith, c.requires, count, fit.threads_fit))
     c.index.ensures (ap (λ (z : State). z.threads) v) c.thread.ensures in
     subst (λ z. thread_at c.args.self.now.threads c.args.k
-    ≡ (c.thread.result.0, g.S.Beginning.told c.thread.result.1, z)) (sym row) thread
+    ≡ (c.thread.result.0, g.S.ThreadStart.reported c.thread.result.1, z)) (sym row) thread
 
 pub returns-clause-same : goal.returns-clause-same
 returns-clause-same g c =
     let i = c.self.inside in
-    stands_put g.S.Beginning.told i c.self.view_is c.self.invariant (nth_row i.rows c.row_of.result)
-    c.copy.ensures.copied refl
+    stands_put g.S.ThreadStart.reported i c.self.view_is c.self.invariant
+    (nth_row i.rows c.row_of.result) c.copy.ensures.copied refl
 
 pub invariant_of-self : goal.invariant_of-self
 invariant_of-self g c =

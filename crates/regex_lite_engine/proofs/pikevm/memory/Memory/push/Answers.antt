@@ -14,7 +14,7 @@ provide-requires-clause-next g c = c.self.invariant.frames_fit
 pub provide-requires-clause-room : goal.provide-requires-clause-room
 provide-requires-clause-room g c =
     let fit = c.self.invariant in
-    let count = counted g.S.Beginning.told c.self.inside c.self.view_is fit in
+    let count = counted g.S.ThreadStart.reported c.self.inside c.self.view_is fit in
     omega (arith, c.requires, count, fit.cells_fit)
 
 pub invariant_of-self : goal.invariant_of-self
@@ -31,7 +31,7 @@ returns g c =
     let more = c.provide.ensures.more in let cells = c.provide.new.cells.items in
     let x = c.index_mut.result.now in let is = c.index_mut.ensures.value in
     let y : Cell _ = record x { frame = c.args.frame } in
-    stands_set g.S.Beginning.told i v fit more i.depth y is (λ s. with_frame s x c.args.frame)
+    stands_set g.S.ThreadStart.reported i v fit more i.depth y is (λ s. with_frame s x c.args.frame)
     (i.depth + 1)
     (frame_put cells i.depth y c.provide.ensures.there
     ∙ ap (λ fs. frame_of c.args.frame ∷ fs)

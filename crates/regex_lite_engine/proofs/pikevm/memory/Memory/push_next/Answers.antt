@@ -10,7 +10,7 @@ use Rattle.regex_lite_engine.proofs.pikevm.memory.Memory.push_next.Goals as goal
 pub copy-requires-clause-to : goal.copy-requires-clause-to
 copy-requires-clause-to g c =
     let i = c.self.inside in let v = c.self.view_is in let fit = c.self.invariant in
-    let count = (counted g.S.Beginning.told i v fit).3 in
+    let count = (counted g.S.ThreadStart.reported i v fit).3 in
     let lt : i.next_len < i.room =
     omega (arith, c.requires, count, ap (λ (z : State). z.room) v) in
     omega (arith, row_fits c.other-side.result i.room i.next_len lt, fit.rows_fit, c.row_of.ensures)
@@ -21,13 +21,13 @@ provide-requires-clause-next g c = c.self.invariant.next_fit
 pub provide-requires-clause-room : goal.provide-requires-clause-room
 provide-requires-clause-room g c =
     let v = c.self.view_is in let fit = c.self.invariant in
-    let count = (counted g.S.Beginning.told c.self.inside v fit).3 in
+    let count = (counted g.S.ThreadStart.reported c.self.inside v fit).3 in
     omega (arith, c.requires, count, ap (λ (z : State). z.room) v, fit.room_few, fit.cells_fit)
 
 pub invariant_of-self : goal.invariant_of-self
 invariant_of-self g c =
     let i = c.self.inside in let v = c.self.view_is in let fit = c.self.invariant in
-    let count = (counted g.S.Beginning.told i v fit).3 in
+    let count = (counted g.S.ThreadStart.reported i v fit).3 in
     let room = ap (λ (z : State). z.room) v in
     let still = still_together c.provide.ensures.more c.provide.ensures.capacity fit in
     let copied : c.copy.new.self ≡ set i.rows c.row_of.result (nth_row i.rows 0) =
@@ -50,9 +50,9 @@ pub returns : goal.returns
 returns g c =
     let i = c.self.inside in let v = c.self.view_is in let fit = c.self.invariant in
     let a = c.args in let row : Row = nth_row i.rows 0 in
-    let count = (counted g.S.Beginning.told i v fit).3 in
+    let count = (counted g.S.ThreadStart.reported i v fit).3 in
     let at = c.row_of.ensures ∙ ap (λ s. row_on s i.next_len) c.other-side.ensures in
-    stands_grown g.S.Beginning.told i v fit c.provide.ensures.more a.place a.start
+    stands_grown g.S.ThreadStart.reported i v fit c.provide.ensures.more a.place a.start
     c.index_mut.ensures.value
     (subst (λ s. c.put_thread.new.self
     ≡ with_thread s a.place a.start c.index_mut.result.now) c.other-side.ensures

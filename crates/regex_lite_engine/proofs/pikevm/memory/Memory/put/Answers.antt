@@ -11,7 +11,7 @@ returns g c =
     let i = c.self.inside in let v = c.self.view_is in let fit = c.self.invariant in
     let written = set (nth_row i.rows 0) c.args.slot c.args.held in
     let some : 0 < length i.rows = omega (arith, fit.rows_fit) in
-    stands_put g.S.Beginning.told i v fit written c.put.ensures
+    stands_put g.S.ThreadStart.reported i v fit written c.put.ensures
     (first_put i.rows c.put.new.self written c.put.ensures some
     ∙ ap (λ (z : State). set z.row c.args.slot c.args.held) v)
 

@@ -9,4 +9,4 @@ returns-clause-few g c =
 
 pub returns-clause-same : goal.returns-clause-same
 returns-clause-same g c =
-    sym (counted g.S.Beginning.told c.self.inside c.self.view_is c.self.invariant).2
+    sym (counted g.S.ThreadStart.reported c.self.inside c.self.view_is c.self.invariant).2

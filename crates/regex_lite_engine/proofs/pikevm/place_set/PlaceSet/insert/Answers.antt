@@ -60,8 +60,8 @@ returns-clause-fresh c =
           ↔ (slice_index_or (members (marks.Stamps s) i.places) k false ≡ false))
           (sym w.result-is)
           (subst (λ b. IsTrue w.insert.result ↔ (b ≡ false))
-          (sym (listed_at (λ q. is_stamped s.stamps.items s.round (i.places - q)) i.places k lt))
-          w.insert.ensures.fresh))
+          (sym (listed_at (λ q. is_stamped s.stamps.items s.generation (i.places - q)) i.places k
+          lt)) w.insert.ensures.fresh))
     ])
 
 pub returns-clause-added : goal.returns-clause-added
@@ -80,8 +80,8 @@ returns-clause-added c =
       | in-Stamps w ↦
           let s = w.in-Stamps.stamps in let n = w.insert.new.self in
           ap (λ z. members z.marks z.places) w.self-inside-is
-          ∙ one_listed (λ q. is_stamped s.stamps.items s.round (i.places - q)) i.places
-          (λ q. is_stamped n.stamps.items n.round (i.places - q)) k lt w.insert.ensures.added
+          ∙ one_listed (λ q. is_stamped s.stamps.items s.generation (i.places - q)) i.places
+          (λ q. is_stamped n.stamps.items n.generation (i.places - q)) k lt w.insert.ensures.added
           (λ l below other. w.insert.ensures.others (i.places - l)
           (λ e. other (omega (arith, e, below, lt))) (omega (arith, below)))
           ∙ ap (λ m. slice_set (members m i.places) k true) (sym w.in-Stamps.is)

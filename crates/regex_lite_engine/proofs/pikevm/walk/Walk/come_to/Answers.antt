@@ -1,15 +1,15 @@
 use Rattle.regex_lite_engine.proofs.Common.{◌≡◌, ◌+◌, ◌<◌, true, [], ◌∷◌, map, length, sym}
 use Rattle.regex_lite_engine.proofs.Common.{if◌then◌else◌, ap, subst, arith, rules, length-map}
-use Rattle.regex_lite_engine.proofs.Common.{kept_back, place_of, places_of, LeadsBelow, ℕ, Bool}
+use Rattle.regex_lite_engine.proofs.Common.{stack_bound, place_of, places_of, LeadsBelow, ℕ, Bool}
 use Rattle.regex_lite_engine.proofs.Common.{false, List, inl, inr, Some, refl, ◌∙◌, length-set}
 use Rattle.regex_lite_engine.proofs.Common.{StepCounts}
 use Rattle.std.specs.Prelude.{not, ◌==◌}
 use Rattle.regex_lite_engine.specs.declared.pikevm.enter.Onward as code
 use Rattle.regex_lite_engine.specs.Pikevm.Entering.{completes, onto, Enters, pushing, reading_on}
 use Rattle.regex_lite_engine.specs.Pikevm.Machine.{explore, State, Job, Thread}
-use Rattle.regex_lite_engine.specs.Pikevm.Room.{TakesFrame}
+use Rattle.regex_lite_engine.specs.Pikevm.Capacity.{TakesFrame}
 use Rattle.regex_lite_engine.proofs.search.CountLemmas.{counted_all, entered_once, tried_once}
-use Rattle.regex_lite_engine.proofs.pikevm.RoomLemmas.{left_room}
+use Rattle.regex_lite_engine.proofs.pikevm.CapacityLemmas.{left_room}
 use Rattle.regex_lite_engine.proofs.pikevm.StateLemmas.{later_same, still_fits}
 use Rattle.regex_lite_engine.proofs.pikevm.StateLemmas.{keeps_dropped, keeps_position}
 use Rattle.regex_lite_engine.proofs.pikevm.WalkLemmas.{marked_in}
@@ -19,13 +19,14 @@ use Rattle.regex_lite_engine.proofs.search.PlaceLemmas.{got_place}
 use Rattle.regex_lite_engine.specs.declared.nfa.place.Place.{Place}
 use Rattle.regex_lite_engine.specs.declared.nfa.place.Place.TheVariants as stored
 use Rattle.regex_lite_engine.specs.declared.search.here.Here.{Here}
-use Rattle.regex_lite_engine.specs.Search.Beginnings.{Told}
+use Rattle.regex_lite_engine.specs.Search.ThreadStarts.{Reported}
 use Rattle.regex_lite_engine.proofs.pikevm.walk.Walk.come_to.Goals as goal
 
 pub returns-then-not-insert-clause-taken : goal.returns-then-not-insert-clause-taken
 returns-then-not-insert-clause-taken g c =
     let a = c.args in let w = a.self.now in
-    went_seen (places_of a.table.now) (not (g.row.WHOLE == 0)) a.here (g.S.Beginning.told a.start) w
+    went_seen (places_of a.table.now) (not (g.row.WHOLE == 0)) a.here
+    (g.S.ThreadStart.reported a.start) w
     (record w { memory = c.insert.new.self; steps = c.count_try.new.self }) a.place c.requires
     (was_met _ c.insert.result (search rules) c.insert.ensures.fresh.1) c.insert.ensures.added
     c.count_try.ensures
@@ -34,36 +35,36 @@ pub enter-onward-requires-clause-room : goal.enter-onward-requires-clause-room
 enter-onward-requires-clause-room g c =
     let a = c.args in let m = a.self.now.memory in let all = c.requires.all_seen in
     let room = c.requires.stack_room in
-    let left = left_room kept_back m.entered (places_of a.table.now) a.place
+    let left = left_room stack_bound m.entered (places_of a.table.now) a.place
     (place_of c.look-found.result.now)
     (got_place a.table.now.places a.place c.look-found.result.now c.look-found.ensures.found)
     (let lt = c.requires.frames_below.0 in omega (arith, all, lt))
     (not_yet (c.insert.ensures.fresh.0 (search rules))) in
     still_fits a.place m c.insert.new.self c.insert.ensures.added
-    (kept_back (place_of c.look-found.result.now) + 1) (omega (arith, left, room, all))
+    (stack_bound (place_of c.look-found.result.now) + 1) (omega (arith, left, room, all))
 
 pub returns-in-Complete-clause-taken : goal.returns-in-Complete-clause-taken
 returns-in-Complete-clause-taken g c =
     let a = c.args in let w = a.self.now in let n = c.insert.new.self in
     let e = c.enter-onward.new.memory in let d = c.drop_frames.new.self in
-    let x = c.look-found.result.now in let told = g.S.Beginning.told a.start in
+    let x = c.look-found.result.now in let reported = g.S.ThreadStart.reported a.start in
     let size : length (map place_of a.table.now.places) ≡ length a.table.now.places =
     length-map a.table.now.places place_of in
-    let enters = subst (λ (o : code.Onward). Enters (not (g.row.WHOLE == 0)) a.here told x
+    let enters = subst (λ (o : code.Onward). Enters (not (g.row.WHOLE == 0)) a.here reported x
     (marked_in w.memory a.place)
     (record e { frames = onto o e.frames }) (completes o)) c.in-Complete.is
-    (subst (λ (z : State). Enters (not (g.row.WHOLE == 0)) a.here told x z
+    (subst (λ (z : State). Enters (not (g.row.WHOLE == 0)) a.here reported x z
     (record e { frames = onto c.enter-onward.result e.frames }) (completes c.enter-onward.result))
     {y = marked_in w.memory a.place} c.insert.ensures.added c.enter-onward.ensures.entered) in
     let same =
     later_same a.place w.memory n e c.insert.ensures.added c.enter-onward.ensures.same in
     let after = record w { memory = d; steps = c.look-found.new.steps } in
     subst
-    (λ (o : code.Onward). TakesFrame (places_of a.table.now) (not (g.row.WHOLE == 0)) a.here told w
-    (explore a.place ∷ w.memory.frames) after (onto o d.frames) (completes o))
+    (λ (o : code.Onward). TakesFrame (places_of a.table.now) (not (g.row.WHOLE == 0)) a.here
+    reported w (explore a.place ∷ w.memory.frames) after (onto o d.frames) (completes o))
     (sym c.in-Complete.is)
-    (went_entered (places_of a.table.now) (not (g.row.WHOLE == 0)) a.here told w a.place x e true
-    (subst (λ z. LeadsBelow z (place_of x)) (sym size) c.look-found.ensures.inside)
+    (went_entered (places_of a.table.now) (not (g.row.WHOLE == 0)) a.here reported w a.place x e
+    true (subst (λ z. LeadsBelow z (place_of x)) (sym size) c.look-found.ensures.inside)
     c.requires (not_yet (c.insert.ensures.fresh.0 (search rules)))
     (got_place a.table.now.places a.place x c.look-found.ensures.found) enters same after
     c.drop_frames.ensures
@@ -74,16 +75,16 @@ returns-in_default-clause-taken g c =
     let a = c.args in let w = a.self.now in
     let o = c.enter-onward.result in let left = onto o c.enter-onward.new.memory.frames in
     let e = record c.enter-onward.new.memory { frames = left } in
-    let x = c.look-found.result.now in let told = g.S.Beginning.told a.start in
+    let x = c.look-found.result.now in let reported = g.S.ThreadStart.reported a.start in
     let size : length (map place_of a.table.now.places) ≡ length a.table.now.places =
     length-map a.table.now.places place_of in
-    let enters = subst (λ (z : State). Enters (not (g.row.WHOLE == 0)) a.here told x z e
+    let enters = subst (λ (z : State). Enters (not (g.row.WHOLE == 0)) a.here reported x z e
     (completes o))
     {y = marked_in w.memory a.place} c.insert.ensures.added c.enter-onward.ensures.entered in
     let same = ap (λ (z : State). record z { frames = left })
     (later_same a.place w.memory c.insert.new.self c.enter-onward.new.memory c.insert.ensures.added
     c.enter-onward.ensures.same) in
-    went_entered (places_of a.table.now) (not (g.row.WHOLE == 0)) a.here told w a.place x e
+    went_entered (places_of a.table.now) (not (g.row.WHOLE == 0)) a.here reported w a.place x e
     (completes o)
     (subst (λ z. LeadsBelow z (place_of x)) (sym size) c.look-found.ensures.inside)
     c.requires (not_yet (c.insert.ensures.fresh.0 (search rules)))
@@ -108,12 +109,12 @@ looking_width : (b : Bool) (m : State) (more : List Job)
 looking_width true m more = refl
 looking_width false m more = refl
 
-module _ (whole : Bool) (here : Here) (told : Told) (m e : State) (done : Bool) where
+module _ (whole : Bool) (here : Here) (reported : Reported) (m e : State) (done : Bool) where
   abbrev width : State → ℕ
   width z = length z.row
 
   -- entering a place leaves the row as long as it is
-  enters_width : (x : Place) → Enters whole here told x m e done → length e.row ≡ length m.row
+  enters_width : (x : Place) → Enters whole here reported x m e done → length e.row ≡ length m.row
   enters_width (stored.Empty to) (same, ed) = ap width same
   enters_width (stored.Char ch to) (same, ed) = ap width same ∙ reading_width _ m _
   enters_width (stored.Class to set) (same, ed) = ap width same ∙ reading_width _ m _
@@ -132,7 +133,7 @@ returns-in_default-clause-kept g c =
     let a = c.args in let w = a.self.now.memory in let n = c.insert.new.self in
     let o = c.enter-onward.result in let e = c.enter-onward.new.memory in
     keeps_position a.place w n e c.insert.ensures.added c.enter-onward.ensures.same
-    (enters_width (not (g.row.WHOLE == 0)) a.here (g.S.Beginning.told a.start) n
+    (enters_width (not (g.row.WHOLE == 0)) a.here (g.S.ThreadStart.reported a.start) n
     (record e { frames = onto o e.frames })
     (completes o) c.look-found.result.now c.enter-onward.ensures.entered)
 
@@ -159,7 +160,7 @@ returns-in-Complete-clause-kept g c =
     let o = c.enter-onward.result in let e = c.enter-onward.new.memory in
     keeps_dropped w e c.drop_frames.new.self c.drop_frames.ensures
     (keeps_position a.place w n e c.insert.ensures.added c.enter-onward.ensures.same
-    (enters_width (not (g.row.WHOLE == 0)) a.here (g.S.Beginning.told a.start) n
+    (enters_width (not (g.row.WHOLE == 0)) a.here (g.S.ThreadStart.reported a.start) n
     (record e { frames = onto o e.frames })
     (completes o) c.look-found.result.now c.enter-onward.ensures.entered))
 

@@ -2,7 +2,7 @@ use Rattle.regex_lite_engine.proofs.Common.{true, false, List, [], ◌∷◌, re
 use Rattle.regex_lite_engine.proofs.Common.{length, places_of}
 use Rattle.std.specs.Prelude.{not, ◌==◌}
 use Rattle.regex_lite_engine.specs.Pikevm.Machine.{explore, Job}
-use Rattle.regex_lite_engine.specs.Pikevm.Room.{with_frames, GoesOn, IsFit}
+use Rattle.regex_lite_engine.specs.Pikevm.Capacity.{with_frames, GoesOn, IsFit}
 use Rattle.regex_lite_engine.proofs.search.CountLemmas.{counted_at_first, still_counted}
 use Rattle.regex_lite_engine.proofs.pikevm.StateLemmas.{keeps_threads}
 use Rattle.regex_lite_engine.proofs.pikevm.WentLemmas.{back_to, goes_further}
@@ -12,31 +12,31 @@ use Rattle.regex_lite_engine.proofs.pikevm.walk.Walk.explore_in.Goals as goal
 pub returns-in-None-clause-room : goal.returns-in-None-clause-room
 returns-in-None-clause-room g c =
     let a = c.args in let x = c.come_to.new.self in
-    (back_to (places_of a.table.now) (not (g.row.WHOLE == 0)) a.here (g.S.Beginning.told a.start) x
-    (record x { memory = c.next_place.new.self }) [] c.in-None.ensures.place.0
-    c.next_place.ensures.same refl c.in-Back.ensures.taken.fit).fit
+    (back_to (places_of a.table.now) (not (g.row.WHOLE == 0)) a.here
+    (g.S.ThreadStart.reported a.start) x (record x { memory = c.next_place.new.self }) []
+    c.in-None.ensures.place.0 c.next_place.ensures.same refl c.in-Back.ensures.taken.fit).fit
 
 pub returns-in-None-clause-explored : goal.returns-in-None-clause-explored
 returns-in-None-clause-explored g c =
     let a = c.args in let w = c.places.self in let x = c.come_to.new.self in
-    let table = places_of a.table.now in let told = g.S.Beginning.told a.start in
+    let table = places_of a.table.now in let reported = g.S.ThreadStart.reported a.start in
     let n = record x { memory = c.next_place.new.self } in
     let first = with_frames a.self.now (explore a.first ∷ a.self.now.memory.frames) in
     let here = with_frames w (explore c.places.place ∷ w.memory.frames) in
     let went = c.in-Back.ensures.taken in
-    let back = back_to table (not (g.row.WHOLE == 0)) a.here told x n [] c.in-None.ensures.place.0
-    c.next_place.ensures.same refl went.fit in
-    goes_further table (not (g.row.WHOLE == 0)) a.here told first here (with_frames n []) false
+    let back = back_to table (not (g.row.WHOLE == 0)) a.here reported x n []
+    c.in-None.ensures.place.0 c.next_place.ensures.same refl went.fit in
+    goes_further table (not (g.row.WHOLE == 0)) a.here reported first here (with_frames n []) false
     c.places.invariant.on
-    (goes_further table (not (g.row.WHOLE == 0)) a.here told here x (with_frames n []) false went.on
-    back.on)
+    (goes_further table (not (g.row.WHOLE == 0)) a.here reported here x (with_frames n []) false
+    went.on back.on)
 
 pub places-smaller : goal.places-smaller
 places-smaller g c =
     let a = c.args in let x = c.come_to.new.self in let went = c.in-Back.ensures.taken in
     let n = c.next_place.new.self in
     let back = back_to (places_of a.table.now) (not (g.row.WHOLE == 0)) a.here
-    (g.S.Beginning.told a.start) x
+    (g.S.ThreadStart.reported a.start) x
     (record x { memory = n }) (explore c.in-Some.next ∷ n.frames) c.in-Some.ensures.place
     c.next_place.ensures.same refl went.fit in
     let less = went.less refl in let more = back.less in
@@ -46,22 +46,22 @@ pub places-preserved : goal.places-preserved
 places-preserved g c =
     let a = c.args in let w = c.places.self in let v = c.places.invariant in
     let x = c.come_to.new.self in let y = x.memory in let n = c.next_place.new.self in
-    let table = places_of a.table.now in let told = g.S.Beginning.told a.start in
+    let table = places_of a.table.now in let reported = g.S.ThreadStart.reported a.start in
     let next = record x { memory = n } in
     let first = with_frames a.self.now (explore a.first ∷ a.self.now.memory.frames) in
     let here = with_frames w (explore c.places.place ∷ w.memory.frames) in
     let left = explore c.in-Some.next ∷ n.frames in
     let went = c.in-Back.ensures.taken in
-    let back = back_to table (not (g.row.WHOLE == 0)) a.here told x next left
+    let back = back_to table (not (g.row.WHOLE == 0)) a.here reported x next left
     c.in-Some.ensures.place
     c.next_place.ensures.same refl went.fit in
     let kept = keeps_threads y n c.next_place.ensures.same in
     record {
       room = back.fit;
-      on = goes_further table (not (g.row.WHOLE == 0)) a.here told first here
+      on = goes_further table (not (g.row.WHOLE == 0)) a.here reported first here
           (with_frames next left) false v.on
-          (goes_further table (not (g.row.WHOLE == 0)) a.here told here x (with_frames next left)
-          false went.on back.on);
+          (goes_further table (not (g.row.WHOLE == 0)) a.here reported here x
+          (with_frames next left) false went.on back.on);
       kept = record {
         threads = kept.threads ∙ c.in-Back.ensures.kept.threads ∙ v.kept.threads;
         room = kept.room ∙ c.in-Back.ensures.kept.room ∙ v.kept.room;
@@ -73,15 +73,15 @@ places-preserved g c =
 pub returns-in-Complete-clause-explored : goal.returns-in-Complete-clause-explored
 returns-in-Complete-clause-explored g c =
     let a = c.args in let w = c.places.self in let x = c.come_to.new.self in
-    let table = places_of a.table.now in let told = g.S.Beginning.told a.start in
+    let table = places_of a.table.now in let reported = g.S.ThreadStart.reported a.start in
     let first = with_frames a.self.now (explore a.first ∷ a.self.now.memory.frames) in
     let here = with_frames w (explore c.places.place ∷ w.memory.frames) in
     let went = c.in-Complete.ensures.taken in
-    subst (λ (fs : List Job). GoesOn table (not (g.row.WHOLE == 0)) a.here told first
+    subst (λ (fs : List Job). GoesOn table (not (g.row.WHOLE == 0)) a.here reported first
     (with_frames x fs) true)
     {x = x.memory.frames} (went.cleared refl)
-    (goes_further table (not (g.row.WHOLE == 0)) a.here told first here x true c.places.invariant.on
-    went.on)
+    (goes_further table (not (g.row.WHOLE == 0)) a.here reported first here x true
+    c.places.invariant.on went.on)
 
 pub places-preserved-in-To : goal.places-preserved-in-To
 places-preserved-in-To g c =
@@ -93,7 +93,7 @@ places-preserved-in-To g c =
     record {
       room = c.in-To.ensures.taken.fit;
       on = goes_further (places_of a.table.now) (not (g.row.WHOLE == 0)) a.here
-          (g.S.Beginning.told a.start) first here to
+          (g.S.ThreadStart.reported a.start) first here to
           false v.on c.in-To.ensures.taken.on;
       kept = record {
         threads = c.in-To.ensures.kept.threads ∙ v.kept.threads;

@@ -4,19 +4,19 @@ use Rattle.regex_lite_engine.proofs.search.all_of_list.AllOfListPatterns.come_to
 
 pub returns-clause-starts : goal.returns-clause-starts
 returns-clause-starts c p is =
-    let told = c.entries-entries.ensures in
+    let reported = c.entries-entries.ensures in
     starts_at
-    (all_of_entries c.args.self.now.list.now c.entries-entries.result.now told.same told.inside
-    told.few) (chars c.args.arg2.now) p
+    (all_of_entries c.args.self.now.list.now c.entries-entries.result.now reported.same
+    reported.inside reported.few) (chars c.args.arg2.now) p
 
 pub returns-clause-inside : goal.returns-clause-inside
 returns-clause-inside c =
-    let told = c.entries-entries.ensures in
-    (all_of_entries c.args.self.now.list.now c.entries-entries.result.now told.same told.inside
-    told.few).inside
+    let reported = c.entries-entries.ensures in
+    (all_of_entries c.args.self.now.list.now c.entries-entries.result.now reported.same
+    reported.inside reported.few).inside
 
 pub returns-clause-few : goal.returns-clause-few
 returns-clause-few c =
-    let told = c.entries-entries.ensures in
-    (all_of_entries c.args.self.now.list.now c.entries-entries.result.now told.same told.inside
-    told.few).few
+    let reported = c.entries-entries.ensures in
+    (all_of_entries c.args.self.now.list.now c.entries-entries.result.now reported.same
+    reported.inside reported.few).few

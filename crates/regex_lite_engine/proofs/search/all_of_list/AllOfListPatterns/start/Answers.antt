@@ -14,22 +14,23 @@ inside entries all k is lt =
 
 pub overflow_cast-result : goal.overflow_cast-result
 overflow_cast-result c =
-    let told = c.entries-entries in
+    let reported = c.entries-entries in
     let entries = c.args.self.now.list.now.entries in
-    let lt = inside entries told.result.now c.args.k told.ensures.same c.requires in
-    omega (arith, lt, told.ensures.few)
+    let lt = inside entries reported.result.now c.args.k reported.ensures.same c.requires in
+    omega (arith, lt, reported.ensures.few)
 
 pub offset_bounds-entries-k : goal.offset_bounds-entries-k
 offset_bounds-entries-k c =
-    let told = c.entries-entries in
+    let reported = c.entries-entries in
     let entries = c.args.self.now.list.now.entries in
-    let lt = inside entries told.result.now c.args.k told.ensures.same c.requires in
-    omega (arith, lt, told.ensures.few)
+    let lt = inside entries reported.result.now c.args.k reported.ensures.same c.requires in
+    omega (arith, lt, reported.ensures.few)
 
 pub bounds-entries-k : goal.bounds-entries-k
 bounds-entries-k c =
-    let told = c.entries-entries in
-    inside c.args.self.now.list.now.entries told.result.now c.args.k told.ensures.same c.requires
+    let reported = c.entries-entries in
+    inside c.args.self.now.list.now.entries reported.result.now c.args.k reported.ensures.same
+    c.requires
 
 pub returns : goal.returns
 returns c =

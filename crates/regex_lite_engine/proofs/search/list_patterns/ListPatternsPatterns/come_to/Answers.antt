@@ -18,9 +18,9 @@ pub returns-then-not-may_begin_at-clause-starts : goal.returns-then-not-may_begi
 returns-then-not-may_begin_at-clause-starts c p is =
     let list = c.args.self.now.list.now in
     let haystack = c.args.haystack.now in
-    let passed = subst (λ z. IsPassedByAll c.heads.result.now z c.args.here.at)
+    let passed = subst (λ z. IsPassedByAll c.prefixes.result.now z c.args.here.at)
     c.as_bytes.ensures.value (c.if-not-may_begin_at.ensures.passed refl) in
-    let dead = dead_here (table_of_list list) list.entries c.heads.result.now c.heads.ensures
+    let dead = dead_here (table_of_list list) list.entries c.prefixes.result.now c.prefixes.ensures
     haystack c.utf8.haystack p c.args.here is (sym c.is_some.ensures ∙ c.if-is_some.true)
     (sym c.is_some-then-is_some.ensures ∙ c.if-is_some-2.true) passed in
     subst (λ numbers. AreStartsAt (table_of_list list) (chars haystack) list.entries p

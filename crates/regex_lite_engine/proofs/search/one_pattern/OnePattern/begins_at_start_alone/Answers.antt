@@ -6,15 +6,16 @@ use Rattle.regex_lite_engine.proofs.search.one_pattern.OnePattern.begins_at_star
     as goal
 
 pub returns-then-self : goal.returns-then-self
-returns-then-self c = λ told haystack i low high.
+returns-then-self c = λ reported haystack i low high.
     let one = c.args.self.now in
     let table = places_of one.table.now in
-    let heads = (facts_of one.filter).heads in
+    let prefixes = (facts_of one.filter).prefixes in
     let by_order : (i < length haystack) ⊎ (length haystack ≤ i)
     → IsDeadAt table haystack one.entry i = λ order. elim order [
       | inl before ↦
           one.facts haystack i (inl
-          (inl (only_at_start heads.first haystack i (c.begins_with_none.ensures told) low before)))
+          (inl (only_at_start prefixes.first haystack i (c.begins_with_none.ensures reported) low
+          before)))
       | inr past ↦
           subst (IsDeadAt table haystack one.entry) (omega (arith, past, high))
           (one.ends c.if-self.true haystack)

@@ -20,7 +20,7 @@ run_anchored-requires-clause-counts g c =
 
 pub returns : goal.returns
 returns g c = record {
-  found = rw c.into_outcome.ensures.told at c.run_anchored.ensures.found;
+  found = rw c.into_outcome.ensures.reported at c.run_anchored.ensures.found;
   slots = search rules;
   cost = c.run_anchored.ensures.bounded;
   entered = search rules;

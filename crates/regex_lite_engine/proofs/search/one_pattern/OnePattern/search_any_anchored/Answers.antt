@@ -28,9 +28,9 @@ returns g c = record {
   is_some = c.is_some.ensures ∙ ap is_some c.end.ensures
       ∙ some_end (best_of c.run_anchored.new.cache.best);
   cost = c.run_anchored.ensures.bounded;
-  entered = λ told. c.run_anchored.ensures.entry (λ none. (
+  entered = λ reported. c.run_anchored.ensures.entry (λ none. (
       let is : IsTrue false = subst IsTrue (c.is_some.ensures ∙ ap is_some c.end.ensures
-      ∙ ap (λ best. is_some (option_map (λ z. z.1) best)) none) told in
+      ∙ ap (λ best. is_some (option_map (λ z. z.1) best)) none) reported in
       cc));
 }
 
@@ -47,5 +47,5 @@ returns-then-not-may_start_at g c =
       is_some = refl;
       cost = none_tried (length table) (arrows_of table) text s steps.tried steps.entered
           steps.looked none.tried none.entered none.looked;
-      entered = λ told. cc;
+      entered = λ reported. cc;
     }

@@ -5,7 +5,7 @@ use Rattle.regex_lite_engine.proofs.search.FirstStartLemmas.{answer_from, bounde
 use Rattle.regex_lite_engine.proofs.search.FirstStartLemmas.{first_boundary, first_here}
 use Rattle.regex_lite_engine.proofs.search.FirstStartLemmas.{none_before_first, none_from}
 use Rattle.regex_lite_engine.proofs.search.FirstStartLemmas.{none_tried}
-use Rattle.regex_lite_engine.proofs.search.OutcomeLemmas.{can_count, told_entered}
+use Rattle.regex_lite_engine.proofs.search.OutcomeLemmas.{can_count, reported_entered}
 use Rattle.regex_lite_engine.proofs.search.one_pattern.OnePattern.search_depth_first.Goals as goal
 
 pub walk_for-requires-clause-boundary : goal.walk_for-requires-clause-boundary
@@ -59,7 +59,7 @@ returns c =
     let steps = c.run-found.new.walk.steps in
     let before = none_before_first table c.args.haystack.now c.utf8.haystack one.entry s
     c.in-Some.first (rw c.in-Some.is at c.first_start.ensures.first) in record {
-      found = rw c.outcome_of.ensures.told
+      found = rw c.outcome_of.ensures.reported
           (answer_from table text one.entry s m before
           (with_start_kept (best_at c.run-found.result c.run-found.new.walk.stack.row))
           c.run-found.ensures.found);
@@ -67,7 +67,7 @@ returns c =
           c.outcome_of.ensures.slots;
       cost = bounded_from (length table) (arrows_of table) text s m steps.tried steps.entered
           steps.looked before.from c.run-found.ensures.bounded;
-      entered = told_entered _ c.outcome_of.result c.run-found.result
-          c.run-found.new.walk.stack.row c.outcome_of.ensures.told
+      entered = reported_entered _ c.outcome_of.result c.run-found.result
+          c.run-found.new.walk.stack.row c.outcome_of.ensures.reported
           (c.run-found.ensures.entry refl);
     }

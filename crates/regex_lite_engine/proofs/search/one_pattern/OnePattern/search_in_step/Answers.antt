@@ -21,7 +21,7 @@ returns c =
     let one = c.args.self.now in
     let haystack = c.args.haystack.now in
     let s = position_at haystack c.args.start in record {
-      found = rw c.into_outcome.ensures.told at
+      found = rw c.into_outcome.ensures.reported at
           (one_best (places_of one.table.now) (chars haystack) one.entry s
           (best_of c.run.new.cache.best) c.run.ensures.found);
       slots = search rules;

@@ -13,12 +13,12 @@ returns-then-self-clause-none c = λ same i low high.
     let one = c.args.self.now in
     let bytes = c.args.haystack.now in
     let start = position_at bytes c.args.start in
-    let told = c.first_start-first.ensures in
+    let reported = c.first_start-first.ensures in
     let at = c.first_start-first.result in
     let small : at + 1 < 2 ^ 64 = omega arith in
     let dead = IsDeadAt (places_of one.table.now) (chars bytes) one.entry in
-    let w = stands_after bytes start at small c.utf8.haystack told.boundary
-    (told.passes start (position_is bytes c.args.start c.utf8.haystack c.requires)) in
+    let w = stands_after bytes start at small c.utf8.haystack reported.boundary
+    (reported.passes start (position_is bytes c.args.start c.utf8.haystack c.requires)) in
     let by_order : (i < w.q) ⊎ (w.q ≤ i) → dead i = λ order. elim order [
       | inl before ↦ one.facts (chars bytes) i (w.passed i low before)
       | inr past ↦
@@ -34,12 +34,12 @@ returns-clause-least c =
     let bytes = c.args.haystack.now in
     let table = places_of one.table.now in
     let start = position_at bytes c.args.start in
-    let told = c.first_start-first.ensures in
+    let reported = c.first_start-first.ensures in
     let at = c.first_start-first.result in
     let small : at + 1 < 2 ^ 64 = omega arith in
     none_before_first table bytes c.utf8.haystack one.entry start (standing bytes at small)
     (passes_as (NeverStarts (facts_of one.filter) (chars bytes))
     (IsDeadAt table (chars bytes) one.entry) (chars bytes) start (standing bytes at small)
     (λ i never. one.facts (chars bytes) i never)
-    (stands_after bytes start at small c.utf8.haystack told.boundary
-    (told.passes start (position_is bytes c.args.start c.utf8.haystack c.requires))))
+    (stands_after bytes start at small c.utf8.haystack reported.boundary
+    (reported.passes start (position_is bytes c.args.start c.utf8.haystack c.requires))))

@@ -7,8 +7,8 @@ use Rattle.regex_lite_engine.proofs.PositionLemmas.{position_is}
 use Rattle.regex_lite_engine.proofs.search.WordSearchLemmas.{entered, one_entry}
 use Rattle.regex_lite_engine.proofs.search.one_pattern.OnePattern.search_words.Goals as goal
 
-pub returns-clause-told : goal.returns-clause-told
-returns-clause-told c =
+pub returns-clause-reported : goal.returns-clause-reported
+returns-clause-reported c =
     let one = c.args.self.now in
     let table = places_of one.table.now in
     let bytes = c.args.haystack.now in

@@ -2,7 +2,7 @@ use Rattle.regex_lite_engine.proofs.Common.{◌≤◌, length, chars, inl, refl,
 use Rattle.regex_lite_engine.proofs.Common.{IsPassed, NeverBegins}
 use Rattle.regex_lite_syntax.specs.Prefilter.StartFacts.{NeverStarts}
 use Rattle.regex_lite_engine.specs.Search.Filters.{facts_of}
-use Rattle.regex_lite_engine.specs.Search.Prefixes.{prefix_heads}
+use Rattle.regex_lite_engine.specs.Search.Prefixes.{sets_of_prefix}
 use Rattle.regex_lite_engine.specs.Search.Starts.{SkipsTo}
 use Rattle.regex_lite_engine.specs.declared.search.pattern_filter.PatternFilter.{PatternFilter}
 use Rattle.regex_lite_engine.specs.declared.search.pattern_filter.PatternFilter.TheVariants.{
@@ -14,19 +14,19 @@ use Rattle.regex_lite_engine.proofs.search.pattern_filter.PatternFilter.first_st
 pub returns-in-Literal-clause-passes : goal.returns-in-Literal-clause-passes
 returns-in-Literal-clause-passes c = λ p is.
     let prefix = c.in-Literal.prefix in
-    let heads = prefix_heads prefix.first prefix.second in
+    let prefixes = sets_of_prefix prefix.first prefix.second in
     let bytes = c.args.haystack.now in
     let same = c.as_bytes.ensures.value in
     let found = c.next_offset.ensures in
     subst (λ (filter : PatternFilter). SkipsTo (NeverStarts (facts_of filter) (chars bytes)) bytes p
     c.next_offset.result) (sym c.in-Literal.is)
-    (λ there at stands. passes_as (NeverBegins heads (chars bytes))
+    (λ there at stands. passes_as (NeverBegins prefixes (chars bytes))
     (NeverStarts (facts_of (Literal prefix)) (chars bytes)) (chars bytes) p there
     (λ i never. inl never)
-    (passes_between heads bytes c.utf8.haystack is stands (λ first. refl)
+    (passes_between prefixes bytes c.utf8.haystack is stands (λ first. refl)
     (omega (arith, found.low, at))
     (subst (λ z. there.at ≤ length z) same (omega (arith, at, found.high)))
-    (λ k from below. subst (λ z. IsPassed heads z k) same
+    (λ k from below. subst (λ z. IsPassed prefixes z k) same
     (found.passed k from (omega (arith, below, at))))))
 
 pub returns-in-Whole-clause-passes : goal.returns-in-Whole-clause-passes

@@ -1,7 +1,7 @@
 use Rattle.regex_lite_engine.proofs.Common.{chars, inl, sym, subst, IfSome, NeverBegins}
 use Rattle.regex_lite_syntax.specs.Prefilter.StartFacts.{NeverStarts}
 use Rattle.regex_lite_engine.specs.Search.Filters.{facts_of}
-use Rattle.regex_lite_engine.specs.Search.Prefixes.{prefix_heads}
+use Rattle.regex_lite_engine.specs.Search.Prefixes.{sets_of_prefix}
 use Rattle.regex_lite_engine.specs.Search.Starts.{SkipsTo}
 use Rattle.regex_lite_engine.specs.declared.search.pattern_filter.PatternFilter.{PatternFilter}
 use Rattle.regex_lite_engine.proofs.search.SkipLemmas.{skips_as}
@@ -13,7 +13,7 @@ returns-in-Literal-clause-passes c = λ p is.
     let prefix = c.in-Literal.prefix in
     subst (λ (filter : PatternFilter). IfSome c.next_start-in-Literal.result
     (SkipsTo (NeverStarts (facts_of filter) (chars bytes)) bytes p)) (sym c.in-Literal.is)
-    (skips_as (NeverBegins (prefix_heads prefix.first prefix.second) (chars bytes)) _ bytes p
+    (skips_as (NeverBegins (sets_of_prefix prefix.first prefix.second) (chars bytes)) _ bytes p
     c.next_start-in-Literal.result (λ i never. inl never)
     (c.next_start-in-Literal.ensures.passes p is))
 

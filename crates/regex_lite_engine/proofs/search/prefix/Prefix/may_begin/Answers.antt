@@ -1,6 +1,6 @@
 use Rattle.regex_lite_engine.proofs.Common.{ap, ◌∙◌, sym}
 use Rattle.std.proofs.lemmas.Bool.{eqb-false}
-use Rattle.regex_lite_syntax.specs.Prefilter.Starts.{may_begin}
+use Rattle.regex_lite_syntax.specs.Prefilter.FirstSet.{may_begin}
 use Rattle.regex_lite_engine.specs.Search.Prefixes.{just_starts}
 use Rattle.regex_lite_engine.proofs.search.PrefixLemmas.{may_not}
 use Rattle.regex_lite_engine.proofs.search.prefix.Prefix.may_begin.Goals as goal

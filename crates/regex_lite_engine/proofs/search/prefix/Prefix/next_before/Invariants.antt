@@ -1,5 +1,5 @@
 use Rattle.regex_lite_engine.proofs.Common.{ℕ, ◌-◌, ◌<◌, ◌≤◌, IsPassed}
-use Rattle.regex_lite_engine.specs.Search.Prefixes.{prefix_heads}
+use Rattle.regex_lite_engine.specs.Search.Prefixes.{sets_of_prefix}
 use Rattle.regex_lite_engine.proofs.search.prefix.Prefix.next_before.Given as goal
 
 abbrev pub invariant-bytes : goal.invariant-bytes
@@ -7,7 +7,7 @@ invariant-bytes l = record {
   low : l.from ≤ l.at;
   high : l.at ≤ l.end;
   passed : (k : ℕ) → l.from ≤ k → k < l.at
-      → IsPassed (prefix_heads l.self.first l.self.second) l.bytes k;
+      → IsPassed (sets_of_prefix l.self.first l.self.second) l.bytes k;
 }
 
 abbrev pub decreases-bytes : goal.decreases-bytes

@@ -7,10 +7,10 @@ returns-clause-passed c = λ k from below. elim (cases_lt k c.next_before-at.res
   | inl near ↦ c.next_before-at.ensures.passed k from near
   | inr later ↦ elim (cases_lt k c.next_block-block.result) [
     | inl lt ↦
-        let told = c.next_block-block.ensures.passed k
+        let reported = c.next_block-block.ensures.passed k
         (omega (arith, later, c.if-at-near.false)) lt in
         passed_unsuited c.args.self.first c.args.self.second c.args.bytes.now k c.args.self.ascii
-        told.0 told.1
+        reported.0 reported.1
     | inr last ↦ c.next_before.ensures.passed k last below
   ]
 ]

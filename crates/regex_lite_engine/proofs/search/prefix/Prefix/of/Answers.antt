@@ -3,10 +3,10 @@ use Rattle.regex_lite_engine.proofs.Common.{◌∙◌}
 use Rattle.regex_lite_engine.proofs.Common.{subst}
 use Rattle.regex_lite_engine.proofs.Common.{arith, drop, Tree, character, look, concat, Trees, more}
 use Rattle.regex_lite_engine.proofs.Common.{tree_of}
-use Rattle.regex_lite_syntax.specs.Prefilter.Heads.{AreHeadsOfTree}
+use Rattle.regex_lite_syntax.specs.Prefilter.PrefixSets.{ArePrefixSetsOfTree}
 use Rattle.regex_lite_syntax.specs.declared.hir.Hir.{Hir}
 use Rattle.regex_lite_syntax.specs.declared.hir.look.Look.TheVariants.{Word}
-use Rattle.regex_lite_engine.specs.Search.Prefixes.{prefix_heads}
+use Rattle.regex_lite_engine.specs.Search.Prefixes.{sets_of_prefix}
 use Rattle.regex_lite_engine.specs.declared.search.prefix.Prefix.{Prefix}
 use Rattle.regex_lite_syntax.proofs.LeafLemmas.{tree_is-Concat}
 use Rattle.regex_lite_syntax.proofs.TreeLemmas.{trees_of, trees_more}
@@ -29,15 +29,15 @@ returns-in-Some c =
     let first = c.first-item.result in
     let second = c.second-item.result in
     let prefix = c.in-Some.prefix in
-    let told = c.in-Some.ensures in
+    let reported = c.in-Some.ensures in
     let rest = trees_of (drop 2 parts) in
     let same = tree_is-Concat _ c.in-Concat.is c.as_slice.ensures.value in
     let two = trees_more parts 0 first (omega (arith, long)) c.first-item.is
     ∙ ap (λ left. more (tree_of first) left)
     (trees_more parts 1 second (omega (arith, long)) c.second-item.is) in
-    subst (λ (tree : Tree). AreHeadsOfTree tree (prefix_heads prefix.first prefix.second))
-    (sym (same ∙ ap concat (two ∙ begun first second rest prefix told.first told.second.0)))
-    (two_first prefix.first prefix.second rest prefix.ascii told.second.1)
+    subst (λ (tree : Tree). ArePrefixSetsOfTree tree (sets_of_prefix prefix.first prefix.second))
+    (sym (same ∙ ap concat (two ∙ begun first second rest prefix reported.first reported.second.0)))
+    (two_first prefix.first prefix.second rest prefix.ascii reported.second.1)
 
 pub returns-then-is_word_boundary : goal.returns-then-is_word_boundary
 returns-then-is_word_boundary c =
@@ -69,14 +69,14 @@ returns-then-is_word_boundary c =
     by_prefix : (o : Option Prefix)
         → IfSome o (λ prefix. tree_of first ≡ character prefix.first)
         → IfSome o (λ prefix. (tree_of second ≡ character prefix.second) × (prefix.second < 128))
-        → IfSome o (λ prefix. AreHeadsOfTree (tree_of c.args.hir.now)
-        (prefix_heads prefix.first prefix.second))
+        → IfSome o (λ prefix. ArePrefixSetsOfTree (tree_of c.args.hir.now)
+        (sets_of_prefix prefix.first prefix.second))
     by_prefix None one two = one
     by_prefix (Some prefix) one two =
         let same = tree_is-Concat _ c.in-Concat.is c.as_slice-2.ensures.value in
         let boundary = c.is_word_boundary.ensures c.if-is_word_boundary.true in
-        subst (λ (tree : Tree). AreHeadsOfTree tree (prefix_heads prefix.first prefix.second))
-        (sym (same ∙ ap concat (three
+        subst (λ (tree : Tree). ArePrefixSetsOfTree tree
+        (sets_of_prefix prefix.first prefix.second)) (sym (same ∙ ap concat (three
         ∙ ap (λ t. more t (more (tree_of first) (more (tree_of second) rest))) boundary
         ∙ ap (λ left. more (look Word) left) (begun first second rest prefix one two.0))))
         (two_after_look prefix.first prefix.second Word rest prefix.ascii two.1)

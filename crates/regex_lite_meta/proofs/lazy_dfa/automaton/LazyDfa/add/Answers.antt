@@ -1,8 +1,8 @@
-use Rattle.regex_lite_meta.proofs.Common.{◌≡◌, suc, ◌+◌, ◌-◌, ◌*◌, ◌<◌, ◌≤◌, List, [], ◌∷◌}
-use Rattle.regex_lite_meta.proofs.Common.{◌++◌, map, length, take, drop, sym, refl, ap, ◌∙◌, subst}
-use Rattle.regex_lite_meta.proofs.Common.{arith, rules, suc-mul, take_all, Automaton}
-use Rattle.regex_lite_meta.proofs.Common.{classes_in, way_in, hit_in, number_of, StoredState, Target}
-use Rattle.regex_lite_meta.specs.declared.lazy_dfa.state.Effect.TheVariants.{Unknown}
+use Rattle.regex_lite_meta.proofs.Common.{◌≡◌, suc, ◌+◌, ◌-◌, ◌*◌, ◌<◌, ◌≤◌, List, [], ◌∷◌, ◌++◌}
+use Rattle.regex_lite_meta.proofs.Common.{map, length, take, drop, sym, refl, ap, ◌∙◌, subst, arith}
+use Rattle.regex_lite_meta.proofs.Common.{rules, suc-mul, take_all, Automaton, classes_in, way_in}
+use Rattle.regex_lite_meta.proofs.Common.{match_flag_in, number_of, StoredState, NextState}
+use Rattle.regex_lite_meta.specs.declared.lazy_dfa.state.TransitionKind.TheVariants.{Unknown}
 use Rattle.std.proofs.Math.Seq.{drop-length}
 use Rattle.regex_lite_meta.specs.LazyDfa.Automaton.{State}
 use Rattle.regex_lite_meta.specs.LazyDfa.Stored.{LieWithin, AllAgree}
@@ -20,21 +20,21 @@ use Rattle.regex_lite_meta.proofs.lazy_dfa.automaton.LazyDfa.add.Goals.{
   In-Ok,
 }
 
-abbrev blank : Target
-blank = record { row = 0; state = 0; effect = Unknown }
+abbrev blank : NextState
+blank = record { row = 0; state = 0; kind = Unknown }
 
 -- the row of the new state comes after those of all others
 rows : (c : In-Ok) →
     c.resize.new.self.items
-    ≡ c.self.inside.targets.items ++ replicate (classes_in c.self.inside.classes) blank
+    ≡ c.self.inside.next_states.items ++ replicate (classes_in c.self.inside.classes) blank
 rows c =
-    let old = c.self.inside.targets.items in
-    let count : vec_len c.self.inside.targets ≡ length old = search rules in
+    let old = c.self.inside.next_states.items in
+    let count : vec_len c.self.inside.next_states ≡ length old = search rules in
     let len = c.len-rows.ensures in
     let more = c.len-2.ensures.same in
     let longer = c.len-rows.result + c.len-2.result in
     c.in-Ok.ensures.items
-    ∙ ap (λ xs. xs ++ replicate (longer - vec_len c.self.inside.targets) blank)
+    ∙ ap (λ xs. xs ++ replicate (longer - vec_len c.self.inside.next_states) blank)
     (take_all longer old (omega (arith, count, len)))
     ∙ ap (λ n. old ++ replicate n blank) (omega (arith, count, len, more))
 
@@ -53,7 +53,7 @@ invariant_of-self-in-Ok-push c =
       searching = c.args.searching;
       restarts = c.args.restarts;
       before = c.args.before;
-      hit = c.args.hit;
+      match_flag = c.args.match_flag;
     } in
     let all = rows (goal.at.invariant_of-self-in-Ok-push c).In-Ok in
     let states = ap length items ∙ length-append i.states.items (s ∷ []) in
@@ -61,18 +61,18 @@ invariant_of-self-in-Ok-push c =
     omega (arith, states) in
     let few = c.requires in
     let view = ap (λ (z : Automaton). length z.states) c.self.view_is in
-    let there = length_states i.states.items i.ways.items n i.targets.items in (
+    let there = length_states i.states.items i.ways.items n i.next_states.items in (
       subst (LieWithin c.len-self-inside.result) (sym items)
           (within_added i.states.items i.used c.len-self-inside.result s v.0
           (let fits = v.1 in omega (arith, fits, count, len)) refl
           (omega (arith, len, own))),
       omega (arith, count, len),
       omega (arith, next, few, view, there),
-      subst (λ targets. AllAgree c.push.new.self.items n targets) (sym all)
+      subst (λ next_states. AllAgree c.push.new.self.items n next_states) (sym all)
           (subst
-          (λ states. AllAgree states n (i.targets.items ++ replicate n blank)) (sym items)
-          (agree_added i.states.items (s ∷ []) i.targets.items n n blank refl refl refl v.3)),
-      ap length all ∙ length-append i.targets.items (replicate n blank)
+          (λ states. AllAgree states n (i.next_states.items ++ replicate n blank)) (sym items)
+          (agree_added i.states.items (s ∷ []) i.next_states.items n n blank refl refl refl v.3)),
+      ap length all ∙ length-append i.next_states.items (replicate n blank)
           ∙ (let full = v.4 in
           let more = length-replicate n blank in
           let own = suc-mul (length i.states.items) n in omega (arith, full, more, own))
@@ -86,7 +86,7 @@ new_state c = record {
   ways = c.args.self.now.pending;
   searching = c.args.searching;
   before = c.args.before;
-  hit = hit_in c.args.hit;
+  match_flag = match_flag_in c.args.match_flag;
   restarts = c.args.restarts;
   next = map number_of
       (replicate (classes_in c.self.inside.classes) blank);
@@ -94,7 +94,7 @@ new_state c = record {
 
 added : (c : After-len-self-inside) →
     c.resize.new.self.items
-    ≡ c.self.inside.targets.items ++ replicate (classes_in c.self.inside.classes) blank →
+    ≡ c.self.inside.next_states.items ++ replicate (classes_in c.self.inside.classes) blank →
     seen c.self.inside.classes c.self.inside.reach c.push.new.self.items c.resize.new.self.items
     c.len-self-inside.result c.self.inside.ways.items
     ≡ record c.args.self.now {
@@ -108,8 +108,8 @@ added c all =
     let count : vec_len i.ways ≡ length i.ways.items = search rules in
     ap (λ k. seen i.classes i.reach c.push.new.self.items c.resize.new.self.items k i.ways.items)
     (c.len-self-inside.ensures ∙ count)
-    ∙ seen_added i.classes i.reach i.states.items i.targets.items i.used i.ways.items v.0 v.1 _ refl
-    (ap (λ k. k - i.used) (c.len.ensures ∙ count)) c.push.new.self.items
+    ∙ seen_added i.classes i.reach i.states.items i.next_states.items i.used i.ways.items v.0 v.1 _
+    refl (ap (λ k. k - i.used) (c.len.ensures ∙ count)) c.push.new.self.items
     c.in-Ok-push.ensures.items c.resize.new.self.items (replicate n blank) all v.4
     (length-replicate n blank)
     ∙ ap (λ (z : Automaton). record z {
@@ -118,7 +118,7 @@ added c all =
     }) c.self.view_is
 
 pub returns-in-Ok-push-clause-state : goal.returns-in-Ok-push-clause-state
-returns-in-Ok-push-clause-state c = λ told.
+returns-in-Ok-push-clause-state c = λ reported.
     let at = goal.at.returns-in-Ok-push-clause-state c in
     added_is c.args.self.now _ _ (added at.After-len-self-inside (rows at.In-Ok))
 
@@ -130,20 +130,20 @@ returns-in-Ok-push-clause-extends c =
     (subst (λ (z : Automaton). class < classes_in z.intervals) (sym c.self.view_is) lt))
 
 pub returns-in-Ok-push-clause-none_pending : goal.returns-in-Ok-push-clause-none_pending
-returns-in-Ok-push-clause-none_pending c = λ told.
+returns-in-Ok-push-clause-none_pending c = λ reported.
     let ways = c.self.inside.ways.items in
     let count : vec_len c.self.inside.ways ≡ length ways = search rules in
     ap (λ n. map way_in (drop n ways)) (c.len-self-inside.ensures ∙ count)
     ∙ ap (map way_in) (drop-length ways)
 
 -- without the state there are the targets that there were
-targets_left : (c : After-truncate) →
+next_states_left : (c : After-truncate) →
     c.resize.new.self.items
-    ≡ c.self.inside.targets.items ++ replicate (classes_in c.self.inside.classes) blank →
-    c.truncate.new.self.items ≡ c.self.inside.targets.items
-targets_left c all =
-    let old = c.self.inside.targets.items in
-    let count : vec_len c.self.inside.targets ≡ length old = search rules in
+    ≡ c.self.inside.next_states.items ++ replicate (classes_in c.self.inside.classes) blank →
+    c.truncate.new.self.items ≡ c.self.inside.next_states.items
+next_states_left c all =
+    let old = c.self.inside.next_states.items in
+    let count : vec_len c.self.inside.next_states ≡ length old = search rules in
     let len = c.len-rows.ensures in
     let n = c.len-rows.result in
     c.truncate.ensures.items ∙ ap (take n) all
@@ -157,13 +157,13 @@ invariant_of-self-in-Err c =
     let v = c.self.invariant in
     let states = c.in-Err.ensures.items in
     let at = goal.at.invariant_of-self-in-Err c in
-    let targets = targets_left at.After-truncate (rows at.In-Ok) in (
+    let next_states = next_states_left at.After-truncate (rows at.In-Ok) in (
       subst (LieWithin i.used) (sym states) v.0,
       v.1,
       subst (λ (all : List StoredState). length all ≤ 256) (sym states) v.2,
-      subst (AllAgree c.push.new.self.items (classes_in i.classes)) (sym targets)
-          (subst (λ all. AllAgree all (classes_in i.classes) i.targets.items) (sym states) v.3),
-      ap length targets ∙ v.4
+      subst (AllAgree c.push.new.self.items (classes_in i.classes)) (sym next_states)
+          (subst (λ all. AllAgree all (classes_in i.classes) i.next_states.items) (sym states) v.3),
+      ap length next_states ∙ v.4
           ∙ ap (λ (all : List StoredState). length all * classes_in i.classes) (sym states),
       v.5,
       v.6,
@@ -179,7 +179,7 @@ returns-in-Err-clause-extends c =
     ap (λ all. seen i.classes i.reach all c.truncate.new.self.items i.used i.ways.items)
     c.in-Err.ensures.items
     ∙ ap (λ all. seen i.classes i.reach i.states.items all i.used i.ways.items)
-    (targets_left at.After-truncate (rows at.In-Ok))
+    (next_states_left at.After-truncate (rows at.In-Ok))
     ∙ c.self.view_is in
     extends_same c.args.self.now _ (ap (λ (z : Automaton). z.intervals) same)
     (ap (λ (z : Automaton). z.reach) same) (ap (λ (z : Automaton). z.states) same)

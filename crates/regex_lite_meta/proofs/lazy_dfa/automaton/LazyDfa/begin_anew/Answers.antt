@@ -1,5 +1,5 @@
 use Rattle.regex_lite_meta.proofs.Common.{◌≡◌, None, IfSome, chars, length, sym, subst, arith}
-use Rattle.regex_lite_meta.proofs.Common.{rules, best_told, IsComing, threads_of}
+use Rattle.regex_lite_meta.proofs.Common.{rules, best_reported, IsComing, threads_of}
 use Rattle.regex_lite_meta.specs.LazyDfa.Automaton.{ReadsAtMost}
 use Rattle.regex_lite_meta.proofs.lazy_dfa.AnewLemmas.{anew}
 use Rattle.regex_lite_meta.proofs.lazy_dfa.HereLemmas.{edge_there, is_there}
@@ -27,10 +27,10 @@ returns-clause-stands g c = λ s low q stands before scanning.
     let stuck = c.args.stuck in
     let none : stuck.best ≡ None = search rules in
     let reads = subst (λ o. IfSome o (ReadsAtMost table entries)) (sym c.in-Some.ensures)
-    c.requires.remembers.reach in
+    c.requires.is_dfa.reach in
     let coming = subst
     (λ best. IsComing table h entries low (length h) q
-    (threads_of stuck.first scanning.state.ways) (best_told best)) none scanning.coming in
+    (threads_of stuck.first scanning.state.ways) (best_reported best)) none scanning.coming in
     let is = is_there c.args.haystack.now c.utf8.haystack scanning c.at-stuck_here.result
     c.at-stuck_here.ensures.here in
     let there = c.in-Some-back.ensures.here q is in
@@ -39,12 +39,12 @@ returns-clause-stands g c = λ s low q stands before scanning.
     there.1 c.in-Some-back.ensures.later in
     let low_there = stands.on.low in
     stands_anew table h entries s stands.from stands.p c.args.self.now c.args.cache.now
-    c.let_go.new.cache stands.on stands.begun c.args.at.now.anew stands.own_from
-    c.let_go.ensures.kept there.0 c.in-Some-back.here there.1 later
+    c.reset.new.cache stands.on stands.begun c.args.at.now.anew stands.own_from
+    c.reset.ensures.kept there.0 c.in-Some-back.here there.1 later
     (anew table h entries s low before c.in-Some.reach q there.0
     (threads_of stuck.first scanning.state.ways) reads coming (omega (arith, all))
     (omega (arith, low_there, later)))
-    c.let_go.ensures.none c.let_go.ensures.threads c.args.at.now.until
+    c.reset.ensures.none c.reset.ensures.threads c.args.at.now.until
 
 pub returns-clause-later : goal.returns-clause-later
 returns-clause-later g c = let later = c.in-Some-back.ensures.later in omega (arith, later)

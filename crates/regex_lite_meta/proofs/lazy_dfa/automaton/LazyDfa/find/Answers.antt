@@ -28,7 +28,7 @@ returns-in-Err g c =
           c.found.ensures
           (over_found (rw (c.advance.ensures.all refl) at c.advance.ensures.stops s stands.p
           stands.is (stands_under_way stands c.in-Err.ensures.not_anew)));
-      remembers = c.search.ensures.remembers;
+      is_dfa = c.search.ensures.is_dfa;
       none_pending = c.search.ensures.none_pending;
       between = c.advance.ensures.between;
       width = sym c.advance.ensures.between.best_width ∙ width;
@@ -44,7 +44,7 @@ pub search-requires-clause-on : goal.search-requires-clause-on
 search-requires-clause-on g c =
     let bs = c.args.haystack.now in
     record {
-      remembers = c.requires.remembers;
+      is_dfa = c.requires.is_dfa;
       none_pending = c.requires.none_pending;
       between = c.requires.between;
       boundary = c.requires.boundary;

@@ -7,18 +7,19 @@ pub pass_over-from-requires : goal.pass_over-from-requires
 pass_over-from-requires g c =
     (position_at c.args.haystack.now c.args.start, c.at-from.ensures.here)
 
-pub search-told-requires-clause-all : goal.search-told-requires-clause-all
-search-told-requires-clause-all g c =
-    let told = c.entries-entries.ensures in
-    all_of_entries c.args.list.now c.entries-entries.result.now told.same told.inside told.few
+pub search-reported-requires-clause-all : goal.search-reported-requires-clause-all
+search-reported-requires-clause-all g c =
+    let reported = c.entries-entries.ensures in
+    all_of_entries c.args.list.now c.entries-entries.result.now reported.same reported.inside
+    reported.few
 
-pub search-told-requires-clause-on : goal.search-told-requires-clause-on
-search-told-requires-clause-on g c =
+pub search-reported-requires-clause-on : goal.search-reported-requires-clause-on
+search-reported-requires-clause-on g c =
     let s = position_at c.args.haystack.now c.args.start in
     let passed = c.pass_over-from.ensures s c.at-from.ensures.here in
     record {
-      remembers = c.requires.remembers.remembers;
-      none_pending = c.requires.remembers.none_pending;
+      is_dfa = c.requires.is_dfa.is_dfa;
+      none_pending = c.requires.is_dfa.none_pending;
       between = c.requires.between;
       boundary = passed_edge c.args.haystack.now c.utf8.haystack passed;
       counted = (s, skips_there c.args.haystack.now c.utf8.haystack passed, c.requires.counts);

@@ -1,6 +1,6 @@
 use Rattle.regex_lite_meta.proofs.Common.{◌^◌, ◌<◌, [], ◌∷◌, length, chars, sym, subst, arith}
 use Rattle.regex_lite_meta.proofs.Common.{rules, places_of, IsBestOutcomeOf, position_at}
-use Rattle.regex_lite_meta.proofs.Common.{span_told}
+use Rattle.regex_lite_meta.proofs.Common.{span_reported}
 use Rattle.regex_lite_meta.proofs.lazy_dfa.OnceLemmas.{spanned}
 use Rattle.regex_lite_meta.proofs.lazy_dfa.RunLemmas.{all_everywhere}
 use Rattle.regex_lite_engine.proofs.search.OutcomeLemmas.{can_count}
@@ -23,6 +23,6 @@ returns-clause-found c =
     let table = places_of one.table.now in
     let haystack = chars c.args.haystack.now in
     let s = position_at c.args.haystack.now c.args.start in
-    subst (λ span. IsBestOutcomeOf table haystack (one.entry ∷ []) s (span_told span))
+    subst (λ span. IsBestOutcomeOf table haystack (one.entry ∷ []) s (span_reported span))
     (sym c.span_of.ensures)
     (spanned table haystack (one.entry ∷ []) s c.find.result [] c.find.ensures.found)

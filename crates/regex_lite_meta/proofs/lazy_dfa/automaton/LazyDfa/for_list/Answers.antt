@@ -3,5 +3,6 @@ use Rattle.regex_lite_meta.proofs.lazy_dfa.automaton.LazyDfa.for_list.Goals as g
 
 pub for_patterns-requires : goal.for_patterns-requires
 for_patterns-requires c =
-    let told = c.entries-entries.ensures in
-    all_of_entries c.args.list.now c.entries-entries.result.now told.same told.inside told.few
+    let reported = c.entries-entries.ensures in
+    all_of_entries c.args.list.now c.entries-entries.result.now reported.same reported.inside
+    reported.few

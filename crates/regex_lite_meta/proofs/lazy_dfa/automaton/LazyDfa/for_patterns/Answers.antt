@@ -4,8 +4,8 @@ use Rattle.regex_lite_engine.specs.Graph.Places.{reading_of}
 use Rattle.regex_lite_meta.specs.LazyDfa.Automaton.{ReadsAtMost}
 use Rattle.regex_lite_meta.specs.LazyDfa.Intervals.{AreIntervalsFor}
 use Rattle.regex_lite_meta.specs.LazyDfa.Parts.{IsPartOf}
-use Rattle.regex_lite_meta.specs.LazyDfa.Remembering.{RemembersFor}
-use Rattle.regex_lite_meta.proofs.lazy_dfa.BuildLemmas.{intervals_for, remembers_none}
+use Rattle.regex_lite_meta.specs.LazyDfa.Spans.{IsDfaFor}
+use Rattle.regex_lite_meta.proofs.lazy_dfa.BuildLemmas.{intervals_for, is_dfa_none}
 use Rattle.regex_lite_meta.proofs.lazy_dfa.PartLemmas.{row_stored}
 use Rattle.regex_lite_meta.proofs.lazy_dfa.automaton.LazyDfa.for_patterns.Goals as goal
 
@@ -27,8 +27,8 @@ returns-in-Ok g c =
     = ap (map place_of) c.all-places.ensures.same ∙ c.table.ensures in
     let is : IsPartOf table entries part =
     subst (λ t. IsPartOf t entries part) (sym same) c.in_ok-part.ensures in
-    subst (λ t. RemembersFor t entries made) same
-    (remembers_none table entries made
+    subst (λ t. IsDfaFor t entries made) same
+    (is_dfa_none table entries made
     (subst (AreIntervalsFor table entries) (sym c.in-Ok.ensures.intervals)
     (intervals_for places entries part is _ refl c.in_ok-classes.classes c.in_ok-classes.ensures))
     (subst (λ reach. IfSome reach (ReadsAtMost table entries)) (sym c.in-Ok.ensures.reach)

@@ -10,7 +10,7 @@ returns c = λ state at.
     let there = ap (λ (z : Automaton). slice_get z.states c.args.x) c.self.view_is ∙ at in
     let stored = ap (λ (s : StoredState). s.len) c.index.ensures in
     let none = len_by_empty i.states.items i.used i.ways.items (classes_in i.classes)
-    i.targets.items c.args.x c.index.result.now state v.0 v.1 there in
+    i.next_states.items c.args.x c.index.result.now state v.0 v.1 there in
     let empty = empty_by_len i.states.items i.used i.ways.items (classes_in i.classes)
-    i.targets.items c.args.x c.index.result.now state v.0 v.1 there in
-    (λ told. empty (search rules), λ e. let zero = none e in search rules)
+    i.next_states.items c.args.x c.index.result.now state v.0 v.1 there in
+    (λ reported. empty (search rules), λ e. let zero = none e in search rules)

@@ -1,5 +1,5 @@
 use Rattle.regex_lite_meta.proofs.Common.{◌≡◌, map, slice_get, slice_index_or, sym, ap, ◌∙◌}
-use Rattle.regex_lite_meta.proofs.Common.{refl, rules, Automaton, way_in, hit_in, state_in}
+use Rattle.regex_lite_meta.proofs.Common.{refl, rules, Automaton, way_in, match_flag_in, state_in}
 use Rattle.regex_lite_meta.proofs.Common.{StoredState, classes_in}
 use Rattle.regex_lite_meta.proofs.lazy_dfa.StoredStateLemmas.{row, state_at}
 use Rattle.regex_lite_meta.proofs.lazy_dfa.automaton.LazyDfa.is_state.Goals as goal
@@ -12,10 +12,10 @@ returns-then-is_like c = λ same.
     let found : StoredState = c.index.result.now in
     let stored : slice_index_or i.states.items y found ≡ found = search rules in
     let at = sym (ap (λ (z : Automaton). slice_get z.states y) c.self.view_is)
-    ∙ state_at i.states.items i.ways.items (classes_in i.classes) i.targets.items y found
+    ∙ state_at i.states.items i.ways.items (classes_in i.classes) i.next_states.items y found
     (search rules) in
     record {
-      state = state_in i.ways.items (row (classes_in i.classes) i.targets.items y)
+      state = state_in i.ways.items (row (classes_in i.classes) i.next_states.items y)
           (slice_index_or i.states.items y found);
       is = at;
       ways =
@@ -23,6 +23,7 @@ returns-then-is_like c = λ same.
           ∙ c.pending.ensures;
       searching = ap (λ (s : StoredState). s.searching) stored ∙ like.searching refl;
       before = ap (λ (s : StoredState). s.before) stored ∙ like.before refl;
-      hit = ap (λ (s : StoredState). hit_in s.hit) stored ∙ ap hit_in (like.hit refl);
+      match_flag = ap (λ (s : StoredState). match_flag_in s.match_flag) stored ∙ ap match_flag_in
+          (like.match_flag refl);
       restarts = ap (λ (s : StoredState). s.restarts) stored ∙ like.restarts refl;
     }

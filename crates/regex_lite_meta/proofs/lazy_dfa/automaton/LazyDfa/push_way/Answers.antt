@@ -6,15 +6,15 @@ use Rattle.regex_lite_meta.proofs.lazy_dfa.automaton.LazyDfa.push_way.Goals as g
 use Rattle.regex_lite_meta.proofs.lazy_dfa.automaton.LazyDfa.push_way.Goals.{in-Ok, in-Err}
 
 pub returns-clause-pushed : goal.returns-clause-pushed
-returns-clause-pushed c = λ told.
+returns-clause-pushed c = λ reported.
     let i = c.self.inside in
     let v = c.self.invariant in
     let way : StoredWay = c.args.way in
     elim c.match-push.branch [
       | in-Ok w ↦
-          seen_pushed i.classes i.reach i.states.items i.targets.items i.used i.ways.items v.0 v.1
-          c.args.self.now c.self.view_is way c.push.new.self.items w.in-Ok.ensures.items
-      | in-Err w ↦ absurd (true≢false (sym told ∙ w.result-is))
+          seen_pushed i.classes i.reach i.states.items i.next_states.items i.used i.ways.items v.0
+          v.1 c.args.self.now c.self.view_is way c.push.new.self.items w.in-Ok.ensures.items
+      | in-Err w ↦ absurd (true≢false (sym reported ∙ w.result-is))
     ]
 
 -- nothing but the pending ways changes
@@ -32,10 +32,10 @@ returns-clause-same c =
     elim c.match-push.branch [
       | in-Ok w ↦
           but_for_pending c.args.self.now _ _
-          (seen_pushed i.classes i.reach i.states.items i.targets.items i.used i.ways.items v.0 v.1
-          c.args.self.now c.self.view_is way c.push.new.self.items w.in-Ok.ensures.items)
+          (seen_pushed i.classes i.reach i.states.items i.next_states.items i.used i.ways.items v.0
+          v.1 c.args.self.now c.self.view_is way c.push.new.self.items w.in-Ok.ensures.items)
       | in-Err w ↦
           but_for_pending c.args.self.now _ c.args.self.now.pending
-          (ap (λ items. seen i.classes i.reach i.states.items i.targets.items i.used items)
+          (ap (λ items. seen i.classes i.reach i.states.items i.next_states.items i.used items)
           w.in-Err.ensures.items ∙ c.self.view_is)
     ]

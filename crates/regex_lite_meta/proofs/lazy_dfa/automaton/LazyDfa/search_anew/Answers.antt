@@ -38,7 +38,7 @@ returns g c =
           c.search_while_it_pays.ensures.stands s (begun g at.After-begun-begun s skips);
       none = c.search_while_it_pays.ensures.none;
       not_anew = c.search_while_it_pays.ensures.not_anew;
-      remembers = c.search_while_it_pays.ensures.remembers;
+      is_dfa = c.search_while_it_pays.ensures.is_dfa;
       none_pending = c.search_while_it_pays.ensures.none_pending;
       between = c.search_while_it_pays.ensures.between;
       width = c.search_while_it_pays.ensures.width;

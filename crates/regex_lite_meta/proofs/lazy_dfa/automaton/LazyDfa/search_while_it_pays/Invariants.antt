@@ -1,10 +1,10 @@
 use Rattle.regex_lite_meta.proofs.Common.{◌≡◌, ℕ, ◌-◌, ◌==◌, true, [], length, None, chars, not}
-use Rattle.regex_lite_meta.proofs.Common.{Remembers, Stands, best_of}
+use Rattle.regex_lite_meta.proofs.Common.{IsDfaOf, Stands, best_of}
 use Rattle.regex_lite_meta.proofs.lazy_dfa.automaton.LazyDfa.search_while_it_pays.Given as goal
 
 abbrev pub invariant-positions : goal.invariant-positions
 invariant-positions g l = record {
-  remembers : Remembers (g.P.Patterns.table l.patterns) (g.P.Patterns.entries l.patterns) l.self;
+  is_dfa : IsDfaOf (g.P.Patterns.table l.patterns) (g.P.Patterns.entries l.patterns) l.self;
   none_pending : l.self.pending ≡ [];
   none : not (g.row.EARLIEST == 0) ≡ true → best_of l.cache.best ≡ None;
   stands : (s : ℕ)

@@ -11,7 +11,8 @@ put_start-requires c =
     let within = slice_get_within c.add.new.self.states _ is.state is.is in
     let count : vec_len i.states ≡ length i.states.items = search rules in
     let len = c.len-y.ensures in
-    let all = length_states i.states.items i.ways.items (classes_in i.classes) i.targets.items in
+    let all = length_states i.states.items i.ways.items (classes_in i.classes)
+    i.next_states.items in
     let view = ap (λ (z : Automaton). length z.states) c.self.view_is in
     subst (λ (z : Automaton). c.len-y.result < length z.states) (sym c.put_number.ensures)
     (omega (arith, within, count, len, all, view))

@@ -10,7 +10,7 @@ pub returns : goal.returns
 returns c = λ state at.
     let i = c.self.inside in
     let found : StoredState = c.index.result.now in
-    let own = is_stored i.classes i.reach i.states.items i.targets.items i.used i.ways.items
+    let own = is_stored i.classes i.reach i.states.items i.next_states.items i.used i.ways.items
     c.args.self.now c.self.view_is c.args.y found c.index.ensures c.requires in
     let len : found.from + found.len - found.from ≡ found.len = omega arith in
     ap (λ n. map way_in (take n (drop found.from c.deref.result.now))) len
@@ -20,8 +20,8 @@ returns c = λ state at.
 pub index-requires : goal.index-requires
 index-requires c =
     let i = c.self.inside in
-    let inside = stored_within i.classes i.reach i.states.items i.targets.items i.used i.ways.items
-    c.args.self.now c.self.view_is c.args.y c.requires in
+    let inside = stored_within i.classes i.reach i.states.items i.next_states.items i.used
+    i.ways.items c.args.self.now c.self.view_is c.args.y c.requires in
     search (inside, rules)
 
 -- the ways of the state lie among those of all
@@ -29,8 +29,8 @@ lies : (c : After-index) →
     c.index.result.now.from + c.index.result.now.len ≤ length c.self.inside.ways.items
 lies c =
     let i = c.self.inside in
-    let inside = stored_within i.classes i.reach i.states.items i.targets.items i.used i.ways.items
-    c.args.self.now c.self.view_is c.args.y c.requires in
+    let inside = stored_within i.classes i.reach i.states.items i.next_states.items i.used
+    i.ways.items c.args.self.now c.self.view_is c.args.y c.requires in
     let own = subst (λ (s : StoredState). s.from + s.len ≤ i.used) (sym c.index.ensures)
     (c.self.invariant.0 c.args.y c.index.result.now inside) in
     let fits = c.self.invariant.1 in omega (arith, own, fits)

@@ -24,5 +24,6 @@ returns c =
     record {
       each = each_of_all c.args.places.now c.places.q boundaries (search rules) v.each;
       characters = v.characters;
-      sides = λ looks. subst (λ bs. All (IsBoundary bs) look_bounds) all.same (all.sides looks);
+      contexts = λ looks. subst (λ bs. All (IsBoundary bs) look_bounds) all.same
+          (all.contexts looks);
     }

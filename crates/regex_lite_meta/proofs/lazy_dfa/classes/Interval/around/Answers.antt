@@ -23,23 +23,23 @@ bounds-preserved c =
     let j = c.bounds.k - 1 in
     let bound = slice_index bs j in
     let held = c.bounds.invariant in
-    let told = c.cut.ensures in
+    let reported = c.cut.ensures in
     let next : suc j ≡ c.bounds.k = omega arith in
     let step = λ (d : ℕ). interval_cons bs j d (omega arith)
     ∙ ap (λ n. tick (nat_le bound d) + interval_of (drop n bs) d) next in
     record {
-      counted = told.class ∙ ap (λ n. tick (nat_le bound c.args.c) + n) held.counted
+      counted = reported.class ∙ ap (λ n. tick (nat_le bound c.args.c) + n) held.counted
           ∙ sym (step c.args.c);
       few =
-          let class = told.class in
+          let class = reported.class in
           let most = one (nat_le bound c.args.c) in
           let few = held.few in omega (arith, class, most, few, next);
       all = λ d from below.
-          let start = told.within.0 in
-          let end = told.within.1 in
+          let start = reported.within.0 in
+          let end = reported.within.1 in
           step d
-          ∙ ap (λ b. tick b + interval_of (drop c.bounds.k bs) d) (told.same d from below)
+          ∙ ap (λ b. tick b + interval_of (drop c.bounds.k bs) d) (reported.same d from below)
           ∙ ap (λ n. tick (nat_le bound c.args.c) + n)
           (held.all d (omega (arith, from, start)) (omega (arith, below, end)))
-          ∙ sym told.class;
+          ∙ sym reported.class;
     }

@@ -4,8 +4,8 @@ use Rattle.regex_lite_meta.proofs.lazy_dfa.list_spans.ListSpanSearcher.find_anch
 pub find_anchored-requires : goal.find_anchored-requires
 find_anchored-requires g c =
     let list = c.args.list.now in
-    let told = c.entries-entries.ensures in
-    let few : length list.entries < 2 ^ 32 = omega (arith, told.few, ap length told.same) in
+    let reported = c.entries-entries.ensures in
+    let few : length list.entries < 2 ^ 32 = omega (arith, reported.few, ap length reported.same) in
     record {
       boundary = c.requires.boundary;
       between = rw c.requires.finds.table (c.requires.finds.goes_on c.requires.some).0;

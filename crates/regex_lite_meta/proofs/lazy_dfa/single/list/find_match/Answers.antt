@@ -12,8 +12,9 @@ cache_for-requires g c =
 
 pub find_once-found-requires-clause-all : goal.find_once-found-requires-clause-all
 find_once-found-requires-clause-all g c =
-    let told = c.entries-entries.ensures in
-    all_of_entries c.args.list.now c.entries-entries.result.now told.same told.inside told.few
+    let reported = c.entries-entries.ensures in
+    all_of_entries c.args.list.now c.entries-entries.result.now reported.same reported.inside
+    reported.few
 
 pub find_once-found-requires-clause-fresh : goal.find_once-found-requires-clause-fresh
 find_once-found-requires-clause-fresh g c =
@@ -25,8 +26,8 @@ find_once-found-requires-clause-counts g c =
     let haystack = c.args.haystack.now in
     let list = c.args.list.now in
     let short : length haystack < 2 ^ 63 = search rules in
-    let told = c.entries-entries.ensures in
-    let few : length list.entries < 2 ^ 32 = omega (arith, told.few, ap length told.same) in
+    let reported = c.entries-entries.ensures in
+    let few : length list.entries < 2 ^ 32 = omega (arith, reported.few, ap length reported.same) in
     rw c.in_ok-patterns.ensures.list
     (can_count (table_of_list list) haystack (position_at haystack c.args.start) c.utf8.haystack
     short (rw (ap places_of c.table.ensures.same) at c.in_ok-cache.ensures.countable)

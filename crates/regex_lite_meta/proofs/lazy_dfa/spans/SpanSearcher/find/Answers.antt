@@ -1,6 +1,7 @@
 use Rattle.regex_lite_meta.proofs.Common.{◌^◌, ◌<◌, [], ◌∷◌, length, chars, arith, rules, places_of}
-use Rattle.regex_lite_meta.proofs.Common.{best_at, nil_from_length, position_at, span_of, span_told}
-use Rattle.regex_lite_meta.proofs.Common.{◌∙◌, with_start_kept, subst, IsBestOutcomeOf, best_kept}
+use Rattle.regex_lite_meta.proofs.Common.{best_at, nil_from_length, position_at, span_of}
+use Rattle.regex_lite_meta.proofs.Common.{span_reported, ◌∙◌, with_start_kept, subst}
+use Rattle.regex_lite_meta.proofs.Common.{IsBestOutcomeOf, best_kept}
 use Rattle.regex_lite_meta.proofs.lazy_dfa.OnceLemmas.{spanned}
 use Rattle.regex_lite_engine.proofs.pikevm.EndLemmas.{one_best}
 use Rattle.regex_lite_engine.proofs.search.OutcomeLemmas.{can_count}
@@ -11,7 +12,7 @@ returns-in-Some-clause-found c =
     let one = c.args.pattern.now in
     let haystack = c.args.haystack.now in
     one_best (places_of one.table.now) (chars haystack) one.entry
-    (position_at haystack c.args.start) (span_told c.find_span.result) c.find_span.ensures.found
+    (position_at haystack c.args.start) (span_reported c.find_span.result) c.find_span.ensures.found
 
 pub run-requires-clause-counts : goal.run-requires-clause-counts
 run-requires-clause-counts c =

@@ -12,19 +12,19 @@ run-requires-clause-counts c =
     (position_at haystack c.args.start) c.utf8.haystack short
     c.in_ok-cache.ensures.countable 1 (omega arith)
 
-pub returns-clause-told : goal.returns-clause-told
-returns-clause-told c =
+pub returns-clause-reported : goal.returns-clause-reported
+returns-clause-reported c =
     let own = c.pattern-pattern.ensures in
     record {
       best = best_of c.run.new.cache.best;
-      is = c.told_by-told.ensures.found;
+      is = c.reported_by-reported.ensures.found;
       end = rw (own.table, own.entry) at c.run.ensures.found;
-      own = rw c.told_by-told.ensures.steps
+      own = rw c.reported_by-reported.ensures.steps
           (rw (own.table, own.entry) at c.run.ensures.own);
-      entered = λ told.
-          rw c.told_by-told.ensures.steps
+      entered = λ reported.
+          rw c.reported_by-reported.ensures.steps
           (c.run.ensures.entry (λ none. (
-          let is : IsTrue false = subst IsTrue (c.told_by-told.ensures.found ∙ ap is_some none) told
-          in
+          let is : IsTrue false = subst IsTrue
+          (c.reported_by-reported.ensures.found ∙ ap is_some none) reported in
           cc)));
     }

@@ -10,12 +10,12 @@ use Rattle.regex_lite_engine.proofs.search.FirstStartLemmas.{none_before_first, 
 use Rattle.std.proofs.lemmas.Result.{IfOk-weaker}
 use Rattle.regex_lite_engine.specs.Graph.StoredList.{IsGraphOfList}
 use Rattle.regex_lite_engine.specs.Search.Bounds.{StepCounts}
-use Rattle.regex_lite_meta.specs.ListMatches.{IsToldOf}
-use Rattle.regex_lite_meta.specs.ListPass.{IsToldFrom}
+use Rattle.regex_lite_meta.specs.ListMatches.{IsReportedOf}
+use Rattle.regex_lite_meta.specs.ListPass.{IsReportedFrom}
 use Rattle.regex_lite_meta.proofs.Common.{places_of}
 use Rattle.regex_lite_meta.proofs.AnyLemmas.{by_outcome}
-use Rattle.regex_lite_meta.proofs.list_matches.ToldLemmas.{by_least_end, told_from_first}
-use Rattle.regex_lite_meta.proofs.list_matches.WhichLemmas.{told_of_tree}
+use Rattle.regex_lite_meta.proofs.list_matches.ReportedLemmas.{by_least_end, reported_from_first}
+use Rattle.regex_lite_meta.proofs.list_matches.WhichLemmas.{reported_of_tree}
 use Rattle.regex_lite_meta.proofs.list_matches.kept.Kept.search_one.Goals as goal
 
 pub search_from-requires-clause-boundary : goal.search_from-requires-clause-boundary
@@ -27,17 +27,18 @@ search_from-requires-clause-boundary c =
     c.in-Some-first_start.first
     (rw (is.table, is.entry) at (rw c.in-Some-first_start.is at c.first_start.ensures.first))
 
-pub returns-clause-told : goal.returns-clause-told
-returns-clause-told c = IfOk-weaker c.search_from.result _ _ known c.search_from.ensures.told
+pub returns-clause-reported : goal.returns-clause-reported
+returns-clause-reported c = IfOk-weaker c.search_from.result _ _ known
+    c.search_from.ensures.reported
   where
-    known : (told : Bool × StepCounts)
-        → IsToldOf (table_of_list c.args.list.now) (chars c.args.haystack.now)
+    known : (reported : Bool × StepCounts)
+        → IsReportedOf (table_of_list c.args.list.now) (chars c.args.haystack.now)
         (slice_index c.args.list.now.entries c.args.number)
-        (position_at c.args.haystack.now c.in-Some-first_start.first.at) told
-        → IsToldFrom (table_of_list c.args.list.now) c.args.haystack.now
+        (position_at c.args.haystack.now c.in-Some-first_start.first.at) reported
+        → IsReportedFrom (table_of_list c.args.list.now) c.args.haystack.now
         (slice_index c.args.list.now.entries c.args.number)
-        (position_at c.args.haystack.now c.args.start) told.0
-    known told from =
+        (position_at c.args.haystack.now c.args.start) reported.0
+    known reported from =
         let list = c.args.list.now in
         let haystack = c.args.haystack.now in
         let s = position_at haystack c.args.start in
@@ -48,28 +49,29 @@ returns-clause-told c = IfOk-weaker c.search_from.result _ _ known c.search_from
         c.in-Some-first_start.first
         (rw (own.table, own.entry) at
         (rw c.in-Some-first_start.is at c.first_start.ensures.first)) in
-        told_from_first (table_of_list list) haystack entry s m told before from
+        reported_from_first (table_of_list list) haystack entry s m reported before from
 
 pub returns-clause-found : goal.returns-clause-found
 returns-clause-found c =
     IfOk-weaker c.search_from.result _ _
-    (λ (told : Bool × StepCounts) known trees tree regular is there.
-    told_of_tree c.args.list.now c.args.haystack.now (position_at c.args.haystack.now c.args.start)
-    trees regular is c.args.number tree there told.0 c.requires.number known)
-    (returns-clause-told c)
+    (λ (reported : Bool × StepCounts) known trees tree regular is there.
+    reported_of_tree c.args.list.now c.args.haystack.now
+    (position_at c.args.haystack.now c.args.start) trees regular is c.args.number tree there
+    reported.0 c.requires.number known) (returns-clause-reported c)
 
 pub returns-clause-cost : goal.returns-clause-cost
-returns-clause-cost c = IfOk-weaker c.search_from.result _ _ cost c.search_from.ensures.told
+returns-clause-cost c = IfOk-weaker c.search_from.result _ _ cost c.search_from.ensures.reported
   where
-    cost : (told : Bool × StepCounts)
-        → IsToldOf (table_of_list c.args.list.now) (chars c.args.haystack.now)
+    cost : (reported : Bool × StepCounts)
+        → IsReportedOf (table_of_list c.args.list.now) (chars c.args.haystack.now)
         (slice_index c.args.list.now.entries c.args.number)
-        (position_at c.args.haystack.now c.in-Some-first_start.first.at) told
+        (position_at c.args.haystack.now c.in-Some-first_start.first.at) reported
         → (trees : List Tree) (tree : Tree) → IsGraphOfList trees c.args.list.now
         → HasTree trees c.args.number tree
         → IsBoundedBy (whole_places tree) (whole_arrows tree + 1) (chars c.args.haystack.now)
-        (position_at c.args.haystack.now c.args.start) told.1.tried told.1.entered told.1.looked
-    cost told from trees tree is there =
+        (position_at c.args.haystack.now c.args.start) reported.1.tried reported.1.entered
+        reported.1.looked
+    cost reported from trees tree is there =
         let list = c.args.list.now in
         let haystack = c.args.haystack.now in
         let s = position_at haystack c.args.start in
@@ -83,19 +85,22 @@ returns-clause-cost c = IfOk-weaker c.search_from.result _ _ cost c.search_from.
         c.in-Some-first_start.first
         (rw (own.table, own.entry) at
         (rw c.in-Some-first_start.is at c.first_start.ensures.first)) in
-        bounded_from len (whole_arrows tree) (chars haystack) s m told.1.tried told.1.entered
-        told.1.looked before.from (rw part.arrows at (from.own part.low len part.is))
+        bounded_from len (whole_arrows tree) (chars haystack) s m reported.1.tried
+        reported.1.entered reported.1.looked before.from
+        (rw part.arrows at (from.own part.low len part.is))
 
 pub returns-clause-entered : goal.returns-clause-entered
 returns-clause-entered c =
     IfOk-weaker c.search_from.result _ _
-    (λ (told : Bool × StepCounts) (from : IsToldOf (table_of_list c.args.list.now)
+    (λ (reported : Bool × StepCounts) (from : IsReportedOf (table_of_list c.args.list.now)
     (chars c.args.haystack.now) (slice_index c.args.list.now.entries c.args.number)
-    (position_at c.args.haystack.now c.in-Some-first_start.first.at) told). from.entered)
-    c.search_from.ensures.told
+    (position_at c.args.haystack.now c.in-Some-first_start.first.at) reported). from.entered)
+    c.search_from.ensures.reported
 
-pub returns-in_default-first_start-clause-told : goal.returns-in_default-first_start-clause-told
-returns-in_default-first_start-clause-told c =
+pub
+    returns-in_default-first_start-clause-reported :
+    goal.returns-in_default-first_start-clause-reported
+returns-in_default-first_start-clause-reported c =
     let list = c.args.list.now in
     let haystack = c.args.haystack.now in
     let s = position_at haystack c.args.start in
@@ -107,9 +112,9 @@ returns-in_default-first_start-clause-told c =
 
 pub returns-in_default-first_start-clause-found : goal.returns-in_default-first_start-clause-found
 returns-in_default-first_start-clause-found c = λ trees tree regular is there.
-    told_of_tree c.args.list.now c.args.haystack.now (position_at c.args.haystack.now c.args.start)
-    trees regular is c.args.number tree there false c.requires.number
-    (returns-in_default-first_start-clause-told c)
+    reported_of_tree c.args.list.now c.args.haystack.now
+    (position_at c.args.haystack.now c.args.start) trees regular is c.args.number tree there false
+    c.requires.number (returns-in_default-first_start-clause-reported c)
 
 pub returns-in_default-first_start-clause-cost : goal.returns-in_default-first_start-clause-cost
 returns-in_default-first_start-clause-cost c = λ trees tree is there.
@@ -119,19 +124,19 @@ returns-in_default-first_start-clause-cost c = λ trees tree is there.
     (position_at c.args.haystack.now c.args.start) steps.tried steps.entered steps.looked
     none.tried none.entered none.looked
 
-pub returns-in-Some-clause-told : goal.returns-in-Some-clause-told
-returns-in-Some-clause-told c =
+pub returns-in-Some-clause-reported : goal.returns-in-Some-clause-reported
+returns-in-Some-clause-reported c =
     let own = c.pattern-pattern.ensures in
     let one = c.pattern-pattern.result in
-    let told = rw c.in-Some.is at c.search_words.ensures.told in
+    let reported = rw c.in-Some.is at c.search_words.ensures.reported in
     rw c.is_some.ensures (rw (own.table, own.entry) at (by_outcome (places_of one.table.now)
-    c.args.haystack.now one.entry c.args.start c.in-Some.found told.found))
+    c.args.haystack.now one.entry c.args.start c.in-Some.found reported.found))
 
 pub returns-in-Some-clause-found : goal.returns-in-Some-clause-found
 returns-in-Some-clause-found c = λ trees tree regular is there.
-    told_of_tree c.args.list.now c.args.haystack.now (position_at c.args.haystack.now c.args.start)
-    trees regular is c.args.number tree there c.is_some.result c.requires.number
-    (returns-in-Some-clause-told c)
+    reported_of_tree c.args.list.now c.args.haystack.now
+    (position_at c.args.haystack.now c.args.start) trees regular is c.args.number tree there
+    c.is_some.result c.requires.number (returns-in-Some-clause-reported c)
 
 pub returns-in-Some-clause-cost : goal.returns-in-Some-clause-cost
 returns-in-Some-clause-cost c = λ trees tree is there.

@@ -7,8 +7,8 @@ pub overflow_sub-haystack : goal.overflow_sub-haystack
 overflow_sub-haystack c =
     at_most c.args.haystack.now c.requires.here.0 c.args.here c.utf8.haystack c.requires.here.1
 
-pub returns-then-pays_to_learn-clause-told : goal.returns-then-pays_to_learn-clause-told
-returns-then-pays_to_learn-clause-told c = λ p is.
+pub returns-then-dfa_pays-clause-reported : goal.returns-then-dfa_pays-clause-reported
+returns-then-dfa_pays-clause-reported c = λ p is.
     let table = table_of_list c.args.list.now in
     let haystack = c.args.haystack.now in
     let entry = slice_index c.args.list.now.entries c.args.number in

@@ -2,10 +2,10 @@ use Rattle.regex_lite_meta.proofs.Common.{◌≡◌, ◌<◌, length, sym, ◌�
 use Rattle.regex_lite_meta.proofs.Common.{arith, slice_index, slice_index_or, slice_set, false}
 use Rattle.regex_lite_meta.proofs.Common.{table_of_list, cases_lt, inl, inr, position_at}
 use Rattle.regex_lite_engine.proofs.Common.{get_or-set_other, get_or-set_same, length-set}
-use Rattle.regex_lite_meta.specs.ListPass.{IsToldFrom}
-use Rattle.regex_lite_meta.proofs.list_matches.PassLemmas.{told_on}
-use Rattle.regex_lite_meta.proofs.list_matches.TriedLemmas.{ends_with_all, rest_known}
-use Rattle.regex_lite_meta.proofs.list_matches.TriedLemmas.{standing_read}
+use Rattle.regex_lite_meta.specs.ListPass.{IsReportedFrom}
+use Rattle.regex_lite_meta.proofs.list_matches.PassLemmas.{reported_on}
+use Rattle.regex_lite_meta.proofs.list_matches.TriedLemmas.{dfa_position_read, ends_with_all}
+use Rattle.regex_lite_meta.proofs.list_matches.TriedLemmas.{rest_known}
 use Rattle.regex_lite_meta.proofs.list_matches.pass.ListPass.finish.Goals as goal
 use Rattle.regex_lite_meta.proofs.list_matches.pass.ListPass.finish.Goals.{in-Known}
 use Rattle.regex_lite_meta.proofs.list_matches.pass.ListPass.finish.Goals.{}
@@ -22,7 +22,7 @@ search_one-requires-clause-boundary c =
     let all = ends_with_all list haystack s statuses c.args.left ends in
     let inside : number < length list.entries
     = omega (arith, c.loop-number-test.true, c.len-number-end.ensures.same) in
-    let read = standing_read statuses number c.index.result.now (omega (arith, all, inside))
+    let read = dfa_position_read statuses number c.index.result.now (omega (arith, all, inside))
     c.index.ensures in
     let rest = rest_known list haystack c.utf8.haystack s number statuses c.rest.result c.args.left
     inside (rw read c.rest.ensures.ended) (rw read c.rest.ensures.left) ends in
@@ -36,13 +36,13 @@ loop-number-preserved c =
     let number = c.loop-number.number in
     let matched = c.loop-number.matched in
     let v = c.loop-number.invariant in
-    let all_told = v.all in
+    let all_reported = v.all in
     let inside : number < length list.entries
     = omega (arith, c.loop-number-test.true, c.len-number-end.ensures.same) in
-    let room : number < length matched = omega (arith, inside, all_told, c.requires.all) in
+    let room : number < length matched = omega (arith, inside, all_reported, c.requires.all) in
     let all = ends_with_all list haystack c.requires.passed.0 statuses c.args.left
     c.requires.passed.1 in
-    let read = standing_read statuses number c.index.result.now (omega (arith, all, inside))
+    let read = dfa_position_read statuses number c.index.result.now (omega (arith, all, inside))
     c.index.ensures in
     record {
       within = omega (arith, inside);
@@ -57,37 +57,38 @@ loop-number-preserved c =
         | in-From+in_ok-matched-in-From w ↦
             rw w.kept-is (λ none. (w.in_ok-matched-in-From.ensures.ready (v.ready none)).0)
       ];
-      told = λ s ends k less.
+      reported = λ s ends k less.
           let rest = rest_known list haystack c.utf8.haystack s number statuses c.rest.result
           c.args.left inside (rw read c.rest.ensures.ended) (rw read c.rest.ensures.left) ends in
-          let known : IsToldFrom (table_of_list list) haystack (slice_index list.entries number) s
-          c.match-rest.matched
+          let known : IsReportedFrom (table_of_list list) haystack (slice_index list.entries number)
+          s c.match-rest.matched
           = elim c.match-rest.branch [
             | in-Known w ↦ rw w.matched-is (rw w.in-Known.is at rest)
             | in-From+in_ok-matched-in-From w ↦
                 rw w.matched-is
-                (told_on (table_of_list list) haystack c.utf8.haystack
+                (reported_on (table_of_list list) haystack c.utf8.haystack
                 (slice_index list.entries number) s
                 (position_at haystack w.in-From.offset) _ (rw w.in-From.is at rest).none
-                w.in_ok-matched-in-From.ensures.told)
+                w.in_ok-matched-in-From.ensures.reported)
           ] in
           elim (cases_lt k number) [
             | inl old ↦
-                subst (IsToldFrom (table_of_list list) haystack (slice_index list.entries k) s)
+                subst (IsReportedFrom (table_of_list list) haystack (slice_index list.entries k) s)
                 (sym (get_or-set_other matched number k c.match-rest.matched false
-                (λ e. absurd (omega (arith, e, old))))) (v.told s ends k old)
+                (λ e. absurd (omega (arith, e, old))))) (v.reported s ends k old)
             | inr le ↦
                 let same : number ≡ k = omega (arith, less, le) in
-                subst (λ z. IsToldFrom (table_of_list list) haystack (slice_index list.entries z) s
+                subst (λ z. IsReportedFrom (table_of_list list) haystack
+                (slice_index list.entries z) s
                 (slice_index_or (slice_set matched number c.match-rest.matched) z false)) same
-                (subst (IsToldFrom (table_of_list list) haystack
+                (subst (IsReportedFrom (table_of_list list) haystack
                 (slice_index list.entries number) s)
                 (sym (get_or-set_same matched number c.match-rest.matched false room)) known)
           ];
     }
 
-pub returns-clause-told : goal.returns-clause-told
-returns-clause-told c = λ s ends number less.
+pub returns-clause-reported : goal.returns-clause-reported
+returns-clause-reported c = λ s ends number less.
     let v = c.loop-number.invariant in
-    v.told s ends number
+    v.reported s ends number
     (omega (arith, less, c.loop-number-test.false, c.len-number-end.ensures.same))

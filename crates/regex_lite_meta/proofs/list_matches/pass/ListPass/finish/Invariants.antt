@@ -2,7 +2,7 @@ use Rattle.regex_lite_meta.proofs.Common.{◌≡◌, ℕ, ◌<◌, ◌≤◌, le
 use Rattle.regex_lite_meta.proofs.Common.{false}
 use Rattle.regex_lite_meta.proofs.Common.{table_of_list}
 use Rattle.regex_lite_meta.specs.ListMatches.{AreKeptFor, NeedsNoMemory}
-use Rattle.regex_lite_meta.specs.ListPass.{EndsPass, IsToldFrom}
+use Rattle.regex_lite_meta.specs.ListPass.{EndsPass, IsReportedFrom}
 use Rattle.regex_lite_meta.proofs.list_matches.pass.ListPass.finish.Given as goal
 
 abbrev pub invariant-loop-number : goal.invariant-loop-number
@@ -11,7 +11,7 @@ invariant-loop-number l = record {
   all : length l.matched ≡ length l.fn.matched;
   kept : AreKeptFor l.list l.kept;
   ready : NeedsNoMemory l.fn.kept → NeedsNoMemory l.kept;
-  told : (s : ℕ) → EndsPass l.list l.haystack s l.self.statuses.items l.left
-      → (k : ℕ) → k < l.number → IsToldFrom (table_of_list l.list) l.haystack
+  reported : (s : ℕ) → EndsPass l.list l.haystack s l.self.statuses.items l.left
+      → (k : ℕ) → k < l.number → IsReportedFrom (table_of_list l.list) l.haystack
       (slice_index l.list.entries k) s (slice_index_or l.matched k false);
 }

@@ -3,7 +3,7 @@ use Rattle.regex_lite_engine.proofs.Common.{replicate}
 use Rattle.std.proofs.lemmas.Result.{IfOk-weaker}
 use Rattle.regex_lite_meta.specs.ListPass.{PassKnowsAll}
 use Rattle.regex_lite_meta.specs.declared.list_matches.status.Status.TheVariants.{Open}
-use Rattle.regex_lite_meta.proofs.list_matches.WhichLemmas.{all_open, told_which}
+use Rattle.regex_lite_meta.proofs.list_matches.WhichLemmas.{all_open, reported_which}
 use Rattle.regex_lite_meta.proofs.list_matches.pass.ListPass.search.Goals as goal
 
 pub go-requires-clause-passed : goal.go-requires-clause-passed
@@ -38,6 +38,6 @@ returns-clause-found c =
     (subst (PassKnowsAll c.args.list.now c.args.haystack.now s s) (sym filled)
     (all_open c.args.list.now c.args.haystack.now c.args.start c.requires.boundary)) in
     IfOk-weaker c.finish.result _ _
-    (λ _ told. told_which c.args.list.now c.args.haystack.now c.args.start c.finish.new.matched
-    c.requires.boundary.0 (c.finish.ensures.length ∙ c.requires.all) (told s ends))
-    c.finish.ensures.told
+    (λ _ reported. reported_which c.args.list.now c.args.haystack.now c.args.start
+    c.finish.new.matched c.requires.boundary.0 (c.finish.ensures.length ∙ c.requires.all)
+    (reported s ends)) c.finish.ensures.reported

@@ -3,10 +3,10 @@ use Rattle.regex_lite_meta.proofs.Common.{◌∙◌, subst, arith, rules, slice_
 use Rattle.regex_lite_engine.proofs.Common.{length-set, ◌≤◌, false, IsTrue}
 use Rattle.regex_lite_engine.proofs.pikevm.ShortestLemmas.{not_true}
 use Rattle.regex_lite_engine.specs.Search.Starts.{start_numbered}
-use Rattle.regex_lite_meta.proofs.list_matches.TriedLemmas.{AreTried, standing_of, start_below}
+use Rattle.regex_lite_meta.proofs.list_matches.TriedLemmas.{AreTried, dfa_position_of, start_below}
 use Rattle.regex_lite_meta.proofs.list_matches.TriedLemmas.{left_from, none_left, none_tried_yet}
 use Rattle.regex_lite_meta.proofs.list_matches.TriedLemmas.{all_tried, passed_by, tried_one, undue}
-use Rattle.regex_lite_meta.proofs.list_matches.TriedLemmas.{standing_read, start_inside}
+use Rattle.regex_lite_meta.proofs.list_matches.TriedLemmas.{dfa_position_read, start_inside}
 use Rattle.regex_lite_meta.proofs.list_matches.PassLemmas.{passed_on}
 use Rattle.regex_lite_meta.proofs.list_matches.pass.ListPass.try_each.Goals as goal
 use Rattle.regex_lite_meta.proofs.list_matches.pass.ListPass.try_each.Goals.{}
@@ -96,7 +96,7 @@ listed-preserved c =
     starts start are at in
     let entry = start_inside list.entries 0 c.listed.k starts start are.in_order at in
     let all = v.all in
-    let read = standing_read old number c.index.result.now (omega (arith, all, below))
+    let read = dfa_position_read old number c.index.result.now (omega (arith, all, below))
     c.index.ensures in
     record {
       tried = λ s p is passed.
@@ -114,12 +114,12 @@ listed-preserved c =
                 below none.from
                 (passed_on (table_of_list list) haystack c.utf8.haystack
                 (slice_index list.entries number) s p (p + 1) w.in_ok-status.status none
-                (w.in_ok-status.ensures.told p is)) now)
+                (w.in_ok-status.ensures.reported p is)) now)
             | else-is_due w ↦
                 rw w.statuses-is
                 (passed_by list haystack c.utf8.haystack s p start _ old entry
                 (undue list haystack c.utf8.haystack s p (slice_index list.entries number)
-                (standing_of old number) c.args.here is
+                (dfa_position_of old number) c.args.here is
                 (λ from is_open. c.is_due.ensures.later
                 (not_true c.is_due.result w.if-is_due.false) from (sym read ∙ is_open)) known) now)
           ];

@@ -36,14 +36,14 @@ returns-in_ok-at-in-Pair c =
       boundary = next_boundary words bytes c.args.from (Some (at, 0)) c.self.invariant.0 next;
     }
 
-pub returns-in-Leaps : goal.returns-in-Leaps
-returns-in-Leaps c =
+pub returns-in-Shifts : goal.returns-in-Shifts
+returns-in-Shifts c =
     let words = all_words c.self.inside.list in
     let bytes = c.args.bytes.now in
-    let next = c.find-in-Leaps.result in
+    let next = c.find-in-Shifts.result in
     record {
       next = subst (λ seen. IsNextWord seen bytes c.args.from next) c.self.view_is
-          c.find-in-Leaps.ensures;
+          c.find-in-Shifts.ensures;
       boundary = next_boundary words bytes c.args.from next c.self.invariant.0
-          c.find-in-Leaps.ensures;
+          c.find-in-Shifts.ensures;
     }

@@ -19,14 +19,15 @@ returns-in-Ok-clause-steps g c =
     let came = c.in_ok-found.ensures.steps in
     let old = c.self.inside.scan in
     let new = c.next.new.self in
-    let told = c.in_ok-found.found in
-    let last = last_match f.sought f.slots f.found_of f.number_of f.IsAnswer old new told came in
+    let reported = c.in_ok-found.found in
+    let last = last_match f.sought f.slots f.found_of f.number_of f.IsAnswer old new reported
+    came in
     let are : f.AreGroupsFound (f.sought new.finder) old.haystack came.0 c.in-Ok.caps =
     rw (← c.finder.ensures, ← c.cursor-cursor.ensures.haystack)
     (c.in-Ok.ensures.groups came.0 (rw (c.finder.ensures, c.cursor-cursor.ensures.haystack) last))
     in
     rw (← c.self.view_is)
-    (groups_came f.sought f.slots f.found_of f.number_of f.IsAnswer old new told came
+    (groups_came f.sought f.slots f.found_of f.number_of f.IsAnswer old new reported came
     f.AreGroupsFound c.in-Ok.caps are c.in-Ok.ensures.span)
 
 pub returns-clause-steps : goal.returns-clause-steps

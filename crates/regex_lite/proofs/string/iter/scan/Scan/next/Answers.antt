@@ -8,7 +8,7 @@ returns-in-Some-clause-fewer g c =
     let cursor = c.self.inside.cursor in
     let pass = c.pass-self-inside.result in
     let found = c.in-Some.found in
-    let told = c.in-Some.ensures.next in
+    let reported = c.in-Some.ensures.next in
     let old : Scanning g.row.F.Denot = record {
       finder = c.self.inside.finder;
       haystack = cursor.haystack.now;
@@ -23,7 +23,7 @@ returns-in-Some-clause-fewer g c =
     } in
     let may : cursor.limit ≢ Some 0 = search rules in
     let inside : found.end ≤ length cursor.haystack.now =
-    subst (λ bytes. found.end ≤ length bytes) told.2.is_match.haystack found.lies_in.inside in
+    subst (λ bytes. found.end ≤ length bytes) reported.2.is_match.haystack found.lies_in.inside in
     subst (λ own. most_ahead new < most_ahead own) c.self.view_is
     (fewer_ahead old new (span_of_match found) may c.pass-self-inside.ensures.haystack
-    c.pass-self-inside.ensures.ended told.4 inside)
+    c.pass-self-inside.ensures.ended reported.4 inside)

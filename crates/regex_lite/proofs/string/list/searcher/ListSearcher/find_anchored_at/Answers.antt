@@ -4,25 +4,25 @@ use Rattle.regex_lite_engine.specs.Search.Outcomes.{IsSpanOutcomeAtOfList}
 use Rattle.regex_lite.specs.Anchored.{TellsMatchAtOfList}
 use Rattle.regex_lite.specs.RegexList.{OfTrees}
 use Rattle.regex_lite.specs.Scanning.{ListSearching, TellsListMatch}
-use Rattle.regex_lite.proofs.string.ListAnchoredLemmas.{list_outcome_from, list_told_there}
+use Rattle.regex_lite.proofs.string.ListAnchoredLemmas.{list_outcome_from, list_reported_there}
 use Rattle.regex_lite.proofs.string.ListKeptLemmas.{list_match}
-use Rattle.regex_lite.proofs.string.ListToldLemmas.{list_span_lies}
-use Rattle.regex_lite.proofs.string.ToldLemmas.{same_pair}
+use Rattle.regex_lite.proofs.string.ListReportedLemmas.{list_span_lies}
+use Rattle.regex_lite.proofs.string.ReportedLemmas.{same_pair}
 use Rattle.regex_lite.proofs.string.list.searcher.ListSearcher.find_anchored_at.Goals as goal
 use Rattle.regex_lite.proofs.string.list.searcher.ListSearcher.find_anchored_at.Goals.{In_ok-number}
 
 -- what the search told of
-told : (c : In_ok-number) → OfTrees c.self.inside.list.now
+reported : (c : In_ok-number) → OfTrees c.self.inside.list.now
     (λ trees. IsSpanOutcomeAtOfList false trees c.args.haystack.now c.args.start
     c.search_anchored.new.self.slots
     (Some (c.in_ok-number.number, (c.in_ok-number.from, c.in_ok-number.to))))
-told c =
+reported c =
     let own = c.self.invariant in
     (own.0, own.1, c.in_ok-number.ensures.found own.0 own.2.0 own.2.1)
 
 pub new-requires : goal.new-requires
 new-requires c =
-    let own = told (goal.at.new-requires c).In_ok-number in
+    let own = reported (goal.at.new-requires c).In_ok-number in
     let bytes = c.args.haystack.now in
     list_span_lies bytes c.utf8.haystack c.args.start c.self.inside.list.now own.0 own.1
     c.in_ok-number.number _ _ (list_outcome_from own.0 bytes c.args.start _ _ own.2)
@@ -33,7 +33,7 @@ kept : (c : In_ok-number) (m : Match) → haystack_of_match m ≡ c.args.haystac
     → TellsListMatch c.self.inside.list.now c.args.haystack.now c.args.start
     c.search_anchored.new.self.slots (Some (c.in_ok-number.number, m))
 kept c m haystack span =
-    let own = told c in
+    let own = reported c in
     let from = list_outcome_from own.0 c.args.haystack.now c.args.start _ _ own.2 in (
       (c.in_ok-number.number, from.0),
       (own.0, own.1, from.1),
@@ -68,14 +68,14 @@ returns-in_err-number-clause-found c =
 pub returns-clause-found : goal.returns-clause-found
 returns-clause-found c =
     let at = (goal.at.returns-clause-found c).In_ok-number in
-    let own = told at in
+    let own = reported at in
     let bytes = c.args.haystack.now in
     let list = c.self.inside.list.now in
     let last : ℕ × Match = (c.in_ok-number.number, c.new.result) in
     let answer : ℕ × Found = (c.in_ok-number.number, own.2.0) in
     subst (λ (own : ListSearching). TellsMatchAtOfList own.list bytes c.args.start (Some last))
     c.self.view_is
-    (list_told_there (λ tree. IsMatchOf bytes) list bytes c.args.start last
+    (list_reported_there (λ tree. IsMatchOf bytes) list bytes c.args.start last
     (own.0, own.1, (answer, own.2.1))
     (list_match list bytes c.args.start c.search_anchored.new.self.slots (Some last)
     (kept at c.new.result c.new.ensures.haystack c.new.ensures.span)))

@@ -1,6 +1,6 @@
 use Rattle.regex_lite.proofs.Common.{◌↔◌, IsTrue, inr, subst, AnyMatches, IsCharBoundary-start}
 use Rattle.regex_lite.specs.Scanning.{ListSearching}
-use Rattle.regex_lite.proofs.string.ListToldLemmas.{any_told}
+use Rattle.regex_lite.proofs.string.ListReportedLemmas.{any_reported}
 use Rattle.regex_lite.proofs.string.list.searcher.ListSearcher.is_match.Goals as goal
 
 pub search_any-requires : goal.search_any-requires
@@ -12,5 +12,5 @@ returns-clause-found c =
     let found = c.search_any.result in
     let own = c.self.invariant in
     subst (λ (own : ListSearching). IsTrue found ↔ AnyMatches own.list bytes 0) c.self.view_is
-    (any_told c.self.inside.list.now own.0 bytes 0 found own.1
+    (any_reported c.self.inside.list.now own.0 bytes 0 found own.1
     (c.search_any.ensures.found own.0 own.2.0 own.2.1))

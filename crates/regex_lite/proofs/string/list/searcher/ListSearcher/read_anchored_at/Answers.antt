@@ -3,7 +3,7 @@ use Rattle.regex_lite.proofs.Common.{Expression, resized, AreSlotsForAllGroups, 
 use Rattle.regex_lite.proofs.Common.{IsMatchOf}
 use Rattle.regex_lite.specs.RegexListSearches.{TellsLocationsOfList}
 use Rattle.regex_lite.specs.Scanning.{TellsListMatch}
-use Rattle.regex_lite.proofs.string.ListAnchoredLemmas.{list_told_there}
+use Rattle.regex_lite.proofs.string.ListAnchoredLemmas.{list_reported_there}
 use Rattle.regex_lite.proofs.string.list.searcher.ListSearcher.read_anchored_at.Goals as goal
 
 pub read-requires : goal.read-requires
@@ -34,7 +34,7 @@ returns-clause-found c =
     let at = c.in_ok-last.ensures.found in
     let spans = c.read.new.locs in
     let same = c.find_anchored_at.ensures.list in
-    list_told_there (λ tree found m. IsMatchOf bytes found m
+    list_reported_there (λ tree found m. IsMatchOf bytes found m
     × (spans ≡ resized (length spans)
     (spans_from (chars bytes) found.marks 0 (captures_len tree)))) a.self.now.list bytes a.start
     last (at.0, at.1, (at.2.0, at.2.1))

@@ -1,7 +1,7 @@
 use Rattle.regex_lite.proofs.Common.{chars, subst}
 use Rattle.regex_lite.specs.Scanning.{ListSearching, TellsListSpan}
 use Rattle.regex_lite.proofs.string.LawfulLemmas.{patterns_lawful}
-use Rattle.regex_lite.proofs.string.ListToldLemmas.{list_span_told, span_of_list}
+use Rattle.regex_lite.proofs.string.ListReportedLemmas.{list_span_reported, span_of_list}
 use Rattle.regex_lite.proofs.string.list.searcher.ListSearcherFinds.find_at.Goals as goal
 
 pub returns-clause-found : goal.returns-clause-found
@@ -11,7 +11,7 @@ returns-clause-found c =
     let slots = c.search.new.self.slots in
     subst (λ (own : ListSearching). TellsListSpan own.list a.haystack.now a.start slots
     c.search.result) c.self.view_is
-    (list_span_told a.haystack.now a.start list slots c.search.result
+    (list_span_reported a.haystack.now a.start list slots c.search.result
     (span_of_list list c.self.inside.inner a.haystack.now a.start slots c.search.result
     c.self.invariant c.search.ensures.found))
 

@@ -14,8 +14,8 @@ search-requires-clause-all c =
     c.self.inside.list.now own.0 own.1 in
     let as_many = own.2.1.each_entry in
     let same = ap (λ (list : List Expression). length list) c.self.view_is in
-    let whole = ap (λ (told : List Bool). length told) c.deref_mut.ensures.value in
-    let view = ap (λ (told : List Bool). length told) c.set.view_is in
+    let whole = ap (λ (reported : List Bool). length reported) c.deref_mut.ensures.value in
+    let view = ap (λ (reported : List Bool). length reported) c.set.view_is in
     omega (arith, c.requires.room, each, as_many, same, whole, view)
 
 pub returns-clause-found : goal.returns-clause-found
@@ -33,6 +33,6 @@ returns-clause-found c =
     (take c.set.inside.matched.len (new ++ drop (length new) items))) c.self.view_is (
       own.0,
       own.1,
-      subst (λ told. TellsWhich own.0 (chars bytes) (search_start bytes c.args.start) told)
+      subst (λ reported. TellsWhich own.0 (chars bytes) (search_start bytes c.args.start) reported)
           (sym same) (c.search.ensures.found own.0 own.2.0 own.2.1),
     )

@@ -15,12 +15,12 @@ pub returns : goal.returns
 returns c =
     let e = c.in_ok-at.ensures in
     let at = c.in_ok-at.at in
-    let told : ℕ × (ℕ × ℕ) = (c.index.result.now, (at, at + c.len_of.result)) in
+    let reported : ℕ × (ℕ × ℕ) = (c.index.result.now, (at, at + c.len_of.result)) in
     let numbered : NumberedWords = record {
       words = c.self.inside.words;
       owners = c.self.inside.owners.items;
     } in
-    let span : IsSpanOfPattern numbered c.args.bytes.now told = record {
+    let span : IsSpanOfPattern numbered c.args.bytes.now reported = record {
       number = c.in_ok-at.number;
       stands = e.next.2;
       boundary = e.boundary;
@@ -28,5 +28,5 @@ returns c =
       owner = get_or_read c.self.inside.owners.items c.in_ok-at.number c.index.result.now
           (omega (arith, e.next.2.inside, c.self.invariant)) c.index.ensures 0;
     } in
-    subst (λ seen. IsNextOfPatterns seen c.args.bytes.now c.args.from (Some told)) c.self.view_is
-    (e.next.0, e.next.1, span)
+    subst (λ seen. IsNextOfPatterns seen c.args.bytes.now c.args.from (Some reported))
+    c.self.view_is (e.next.0, e.next.1, span)

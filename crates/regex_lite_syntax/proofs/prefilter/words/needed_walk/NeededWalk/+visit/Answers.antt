@@ -9,7 +9,7 @@ use Rattle.regex_lite_syntax.specs.declared.prefilter.words.needed_walk.NeededWa
 use Rattle.regex_lite_syntax.proofs.LeafLemmas.{tree_is-Alternation, tree_is-Char}
 use Rattle.regex_lite_syntax.proofs.LeafLemmas.{tree_is-Concat, tree_is-Repetition}
 use Rattle.regex_lite_syntax.proofs.TreeLemmas.{trees_more, trees_of}
-use Rattle.regex_lite_syntax.proofs.prefilter.starts.ReadLemmas.{reads_passes}
+use Rattle.regex_lite_syntax.proofs.prefilter.first_set.ReadLemmas.{reads_passes}
 use Rattle.regex_lite_syntax.proofs.prefilter.words.NeededBranchLemmas.{among_first, among_second}
 use Rattle.regex_lite_syntax.proofs.prefilter.words.NeededBranchLemmas.{branch_found, EachIfLeft}
 use Rattle.regex_lite_syntax.proofs.prefilter.words.NeededBranchLemmas.{EachNeeds, needed_by_branches}

@@ -1,5 +1,5 @@
 use Rattle.regex_lite_syntax.proofs.Common.{refl, subst, sym, tree_of}
-use Rattle.regex_lite_syntax.specs.Prefilter.Starts.{ReadsAmong}
+use Rattle.regex_lite_syntax.specs.Prefilter.FirstSet.{ReadsAmong}
 use Rattle.regex_lite_syntax.proofs.prefilter.words.NeededWalkLemmas.{leaves}
 use Rattle.regex_lite_syntax.proofs.prefilter.words.needed_walk.NeededWalk.leave.Goals as goal
 

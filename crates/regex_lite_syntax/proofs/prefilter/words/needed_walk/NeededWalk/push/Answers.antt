@@ -2,7 +2,7 @@ use Rattle.regex_lite_syntax.proofs.Common.{◌≡◌, ℕ, arith, inl, inr, jus
 use Rattle.regex_lite_syntax.proofs.Common.{subst, sym, true}
 use Rattle.std.proofs.lemmas.Bool.Decides.{nat_tests}
 use Rattle.regex_lite_syntax.specs.Prefilter.NeededWalk.{EndsRow}
-use Rattle.regex_lite_syntax.proofs.prefilter.starts.StartLemmas.{grown_on}
+use Rattle.regex_lite_syntax.proofs.prefilter.first_set.StartLemmas.{grown_on}
 use Rattle.regex_lite_syntax.proofs.prefilter.words.NeededRowLemmas.{letter_added, letter_after}
 use Rattle.regex_lite_syntax.proofs.prefilter.words.needed_walk.NeededWalk.push.Goals as goal
 use Rattle.regex_lite_syntax.proofs.prefilter.words.needed_walk.NeededWalk.push.Goals.{

@@ -1,6 +1,6 @@
 use Rattle.regex_lite_syntax.proofs.Common.{inl, inr, arith, class, refl, subst, sym}
-use Rattle.regex_lite_syntax.specs.Prefilter.Starts.{ReadsAmong}
-use Rattle.regex_lite_syntax.proofs.prefilter.starts.ReadLemmas.{reads_class}
+use Rattle.regex_lite_syntax.specs.Prefilter.FirstSet.{ReadsAmong}
+use Rattle.regex_lite_syntax.proofs.prefilter.first_set.ReadLemmas.{reads_class}
 use Rattle.regex_lite_syntax.proofs.prefilter.words.NeededWalkLemmas.{finds_any, finds_class}
 use Rattle.regex_lite_syntax.proofs.prefilter.words.NeededWalkLemmas.{leaves}
 use Rattle.regex_lite_syntax.proofs.prefilter.words.needed_walk.NeededWalk.visit_class.Goals as goal

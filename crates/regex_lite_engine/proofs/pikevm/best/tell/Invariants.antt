@@ -1,7 +1,0 @@
-use Rattle.regex_lite_engine.proofs.Common.{◌≡◌, ◌++◌, take, drop}
-use Rattle.regex_lite_engine.proofs.pikevm.best.tell.Given as goal
-
-abbrev pub invariant-slots : goal.invariant-slots
-invariant-slots l = record {
-  told : l.row ≡ take l.k l.slots ++ drop l.k l.initial.row;
-}

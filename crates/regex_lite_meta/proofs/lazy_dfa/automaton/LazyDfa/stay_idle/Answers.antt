@@ -1,7 +1,0 @@
-use Rattle.regex_lite_meta.proofs.Common.{slice_get_within}
-use Rattle.regex_lite_meta.proofs.lazy_dfa.automaton.LazyDfa.stay_idle.Goals as goal
-
-pub knows-requires : goal.knows-requires
-knows-requires g c =
-    let idle = c.in_ok-state.ensures in
-    slice_get_within c.args.self.now.states c.in_ok-state.state idle.state idle.is_state

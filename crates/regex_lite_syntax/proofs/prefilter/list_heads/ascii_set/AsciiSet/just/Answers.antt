@@ -1,5 +1,0 @@
-use Rattle.regex_lite_syntax.proofs.prefilter.list_heads.PairLemmas.{just_one}
-use Rattle.regex_lite_syntax.proofs.prefilter.list_heads.ascii_set.AsciiSet.just.Goals as goal
-
-pub returns : goal.returns
-returns c other lt = just_one c.args.code c.requires other lt

@@ -1,6 +1,0 @@
-use Rattle.regex_lite_syntax.proofs.Common.{rules}
-use Rattle.std.proofs.lemmas.Fn.{filter_same}
-use Rattle.regex_lite_syntax.proofs.prefilter.list_heads.thirds.Thirds.keep.Goals as goal
-
-pub returns-clause-kept : goal.returns-clause-kept
-returns-clause-kept c = filter_same _ _ _ (λ x b f' k. search rules) _ _ c.retain.ensures.filtered

@@ -1,6 +1,0 @@
-use Rattle.regex_lite_syntax.proofs.prefilter.words.LeapLemmas.{HashesTo}
-use Rattle.regex_lite_syntax.proofs.prefilter.words.leaps.bucket_of_word.Given as goal
-
--- the hash of the letters so far
-abbrev pub invariant-letters : goal.invariant-letters
-invariant-letters l = HashesTo l.word l.k l.hash

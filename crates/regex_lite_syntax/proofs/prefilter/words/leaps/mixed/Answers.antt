@@ -1,7 +1,0 @@
-use Rattle.regex_lite_syntax.proofs.Common.{refl}
-use Rattle.regex_lite_syntax.specs.Prefilter.Leaps.{mixed}
-use Rattle.regex_lite_syntax.proofs.prefilter.words.leaps.mixed.Goals as goal
-
-pub returns : goal.returns
-unfolding mixed
-returns c = refl
