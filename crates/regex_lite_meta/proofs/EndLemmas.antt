@@ -18,7 +18,7 @@ use Rattle.regex_lite_engine.proofs.search.FirstStartLemmas.{none_before_first, 
 use Rattle.regex_lite_engine.proofs.search.OneStartLemmas.{only_entry}
 use Rattle.regex_lite_engine.proofs.search.OutcomeLemmas.{IsNumberedEnd, end_from}
 
--- where a match ends that is told by its end alone
+-- where a match ends of which only the end is reported
 pub ended : (end : Option ℕ) → option_map (λ best. best.1) (ending_at end) ≡ end
 ended None = refl
 ended (Some end) = refl
@@ -80,7 +80,7 @@ module _ (table : List (Place ℕ)) (bytes : List ℕ) (entry : ℕ) (start : �
       let s = position_at bytes start in
       end_of_one table (chars bytes) entry s None (none_from table (chars bytes) entry s dead)
 
--- what is told of one pattern from a later offset, before which no match of it starts, holds from
+-- what holds of one pattern from a later offset, before which no match of it starts, holds from
 -- this one
 module _ (table : List (Place ℕ)) (haystack : List ℕ) (entry start first : ℕ) where
   abbrev NoneBetween : Type 0

@@ -61,7 +61,7 @@ module _ (table : List (Place ℕ)) (haystack : Text) (entry s : ℕ) where
   outcome_of_one (Some outcome) some =
       span_of_one (Some (outcome.start, outcome.end)) outcome.slots.items some
 
--- a match that is told of entered a place
+-- a reported match entered a place
 pub some_entered : {X : Type 0} (P : Type 0) (found : Option X) → IsTrue (is_some found)
     → IfSome found (λ _. P) → P
 some_entered P None some holds = cc

@@ -4,7 +4,7 @@
 //!
 //! The threads of a PikeVM at a position are all that a search goes on with. A DFA state stands for
 //! such a list of threads, and a transition by a character for a whole step. A pattern may have too
-//! many states to build them all, so this automaton is filled as searches go, like those of RE2 and
+//! many states to build them all, so this DFA is built as searches go, like those of RE2 and
 //! regex-automata: the PikeVM takes a step once, and later searches look it up.
 //!
 //! # How it works
@@ -17,7 +17,7 @@
 //! is the same wherever it is taken. Characters, not bytes, are mapped to classes that no state of
 //! the NFA distinguishes (`classes`), and the end of the haystack is one more class. A transition
 //! takes four bytes (`NextState`): where the row of its state begins, the number of that state, and
-//! an `TransitionKind`, which says whether the transition is special.
+//! a `TransitionKind`, which says whether the transition is special.
 //!
 //! A search begins in a cached start state, one for each look-behind context, and follows
 //! transitions by offset and row alone (`onward`). `scan` handles special ones, and asks the
@@ -40,12 +40,12 @@
 //! Following a cached transition takes some instructions and counts as no step. To build one costs
 //! more than a step of the PikeVM, so this pays in long haystacks and in searchers that are kept.
 //! There are at most 256 states, 7,168 transitions, and 2,176 NFA states in all of them (`room`),
-//! which take some 64 KB, and 127 classes: a pattern with more has no automaton. All memory is
+//! which take some 64 KB, and 127 classes: a pattern with more has no lazy DFA. All memory is
 //! requested when it is made, and where that is refused, searches go without it.
 //!
 //! A full cache is never reset. It keeps what it has, and the PikeVM takes all other steps. The
-//! automaton of several patterns is dropped if, over 8 KB, more than one step for 32 bytes finds no
-//! room: its steps start every pattern, where the index of the list starts few.
+//! lazy DFA of several patterns is dropped if, over 8 KB, more than one transition in 32 bytes
+//! doesn't fit: its steps start every pattern, where the index of the list starts few.
 //!
 //! # Where it is used
 //!

@@ -4,8 +4,9 @@
 //!
 //! All constants of this choice are here, each with a measurement, in instructions. Other constants
 //! are where they are used: the capacity of a lazy DFA's cache, the number of its classes and the
-//! hash table of its states (`room`, `boundaries` and `lookup` in `lazy_dfa`) are bounded by memory
-//! and by the sizes of types, and so are the widths of vectors and of sets in the crates below.
+//! hash table of its states (`capacity`, `boundaries` and `lookup` in `lazy_dfa`) are bounded by
+//! memory and by the sizes of types, and so are the widths of vectors and of sets in the crates
+//! below.
 ghost use Rattle.std.specs.Prelude.{◌≡◌, ◌+◌, ◌*◌, ◌<◌, ◌≤◌, ◌↔◌, IsTrue, length};
 
 mod credit;

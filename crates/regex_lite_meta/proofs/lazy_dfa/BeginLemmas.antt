@@ -1,4 +1,4 @@
--- A search that begins by remembered turns.
+-- A search that begins with cached transitions.
 use Rattle.regex_lite_meta.proofs.Common.{◌≡◌, ℕ, ◌+◌, ◌^◌, ◌<◌, false, List, [], length, None}
 use Rattle.regex_lite_meta.proofs.Common.{ap, ◌∙◌, sym, refl, subst, arith, Text, IsComing}
 use Rattle.regex_lite_meta.proofs.Common.{IsScanning}
@@ -30,7 +30,7 @@ module _ (table : List (Place ℕ)) (h : Text) (entries : List ℕ) (s : ℕ) wh
   }
 
   module _ (here : Here) (passes : PassesTo (AreDeadAt table h entries) h s here) where
-    -- where it stands before its first turn, at a position before which no match begins
+    -- where it stands before its first transition, at a position before which no match begins
     pub begun_there : {S : Type 0} (automaton : Automaton) (cache : Cache S)
         → IsFresh table cache → length cache.walk.memory.row ≡ 0
         → Stands table h entries s automaton (begun_at here) cache
@@ -54,7 +54,7 @@ module _ (table : List (Place ℕ)) (h : Text) (entries : List ℕ) (s : ℕ) wh
         subst (λ (at : Position). Stands table h entries s automaton at cache) (sym same)
         (begun_there automaton cache fresh width)
 
-    -- remembered turns have come this far from there
+    -- cached transitions have led this far from there
     pub begun_with : {S : Type 0} (automaton : Automaton) (at : Position) (cache : Cache S)
         → at ≡ begun_at here → IsFresh table cache
         → length cache.walk.memory.row ≡ 0 → (stopped : DfaPosition)
@@ -118,7 +118,7 @@ module _ (table : List (Place ℕ)) (entries : List ℕ) (bs : List ℕ) (u : Is
       (sym (passed_at bs u passes))
       (starts_there table (chars bs) entries s here passes automaton x empty)
 
-  -- remembered turns have come this far from there
+  -- cached transitions have led this far from there
   pub comes_from : (automaton : Automaton) (stopped : DfaPosition) (here : Here)
       → (same : here.at ≡ at) → (is : IsHere (chars bs) (position_at bs at) here)
       → ComesTo table entries (chars bs) s (position_at bs at) at automaton stopped

@@ -1,4 +1,4 @@
--- An automaton that remembers nothing yet.
+-- A lazy DFA with an empty cache.
 use Rattle.regex_lite_meta.proofs.Common.{◌≡◌, ◌-◌, ℕ, List, [], map, take, drop, slice_get, Some}
 use Rattle.regex_lite_meta.proofs.Common.{IfSome, sym, ap, ◌∙◌, place_of, Automaton, Intervals}
 use Rattle.regex_lite_meta.proofs.Common.{AreIntervalsOf}
@@ -23,7 +23,7 @@ intervals_for places entries part is row cut intervals are =
       contexts = are.contexts;
     }
 
--- an automaton without states remembers no turn that another search would not take
+-- a lazy DFA without states caches no transition that another search would not take
 pub is_dfa_none : (table : List (Place ℕ)) (entries : List ℕ) (automaton : Automaton)
     → AreIntervalsFor table entries automaton.intervals
     → IfSome automaton.reach (ReadsAtMost table entries) → automaton.states ≡ []

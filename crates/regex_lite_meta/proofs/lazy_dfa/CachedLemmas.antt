@@ -1,4 +1,4 @@
--- A turn that a search has taken may be remembered.
+-- A step that a search has taken may be cached as a transition.
 use Rattle.regex_lite_meta.proofs.Common.{◌≡◌, ℕ, zero, suc, ◌+◌, ◌<◌, ◌≤◌, Bool, true, false, ◌⊎◌}
 use Rattle.regex_lite_meta.proofs.Common.{List, [], ◌∷◌, ◌==◌, slice_get, slice_index, slice_set}
 use Rattle.regex_lite_meta.proofs.Common.{Some, None, Option, sym, refl, ap, ◌∙◌, subst, inl, inr}
@@ -68,8 +68,8 @@ same_found : (b : Bool) {x y : Best} → Suits b y → Suits b x → x ≡ None 
 same_found true sy sx e = sy
 same_found false sy sx e = absurd (sx e)
 
--- the first start after a turn at the offset is that of before, or the offset, if no thread began
--- there before the turn, and there is no match
+-- the first start after a step at the offset is that of before, or the offset, if no thread began
+-- there before the step, and there is no match
 abbrev pub IsNextStart : (restarts : Bool) → (first at next : ℕ) → (before now : Best) → List Thread
     → Type 0
 IsNextStart false first at next before now threads = next ≡ first
@@ -231,7 +231,7 @@ set_other (z ∷ xs) zero v (suc k) w other at = at
 set_other (z ∷ xs) (suc x) v zero w other at = at
 set_other (z ∷ xs) (suc x) v (suc k) w other at = set_other xs x v k w (λ e. other (ap suc e)) at
 
--- what a state leads to doesn't rest on the turns that are remembered of it
+-- what a state leads to doesn't rest on its cached transitions
 led_from : (table : List (Place ℕ)) (entries : List ℕ) (intervals : Intervals) (x y : State)
     (class : ℕ) (next : List ℕ)
     → LeadsOn table entries intervals x class y →
@@ -292,7 +292,7 @@ module _ (table : List (Place ℕ)) (entries : List ℕ) where
           subst (FitsTable table entries)
           (sym (extends.fresh x state at (λ e. not_there (sym old_at ∙ e))).0) fits
 
-  -- with one turn more
+  -- with one transition more
   pub is_dfa_more : (old : Automaton) → IsDfaOf table entries old
       → (x : ℕ) (from : State) (class y : ℕ) (to : State) → slice_get old.states x ≡ Some from
       → slice_get old.states y ≡ Some to →

@@ -1,4 +1,4 @@
--- A search that goes by remembered turns, by offsets alone.
+-- A search that follows cached transitions, by offsets alone.
 use Rattle.regex_lite_meta.proofs.Common.{◌≡◌, ℕ, suc, ◌+◌, ◌^◌, ◌<◌, ◌≤◌, ◌⊎◌, List, [], length}
 use Rattle.regex_lite_meta.proofs.Common.{drop, slice_get, Some, None, IsUtf8, Option, chars}
 use Rattle.regex_lite_meta.proofs.Common.{sym, refl, ap, ◌∙◌, subst, inl, inr}
@@ -55,7 +55,7 @@ module _ (table : List (Place ℕ)) (entries : List ℕ) (h : Text) (low : ℕ) 
         scanning;
   }
 
-  -- what is read there is not told of it
+  -- what is read there says nothing of it
   pub cursor_kept : (p : ℕ) (automaton : Automaton) (cursor : DfaCursor)
       (reported after : DfaPosition) → Stays reported after → IsCursorAt table entries h low p
       automaton cursor reported → IsCursorAt table entries h low p automaton cursor after
@@ -63,7 +63,7 @@ module _ (table : List (Place ℕ)) (entries : List ℕ) (h : Text) (low : ℕ) 
       subst (IsCursorAt table entries h low p automaton cursor) (sym same)
       (record { x = is.x; row = is.row; scanning = is.scanning })
 
-  -- after a turn
+  -- after a transition
   pub since_led : (q : ℕ) (automaton : Automaton) (at : DfaPosition) (to : ℕ)
       (best : Option (MatchStart × ℕ)) → (led : LedTo table entries h low q automaton at to best)
       → (end in_start : ℕ) → IsOffset h (q + 1) end → (led.state.ways ≡ [] → best ≡ None)
@@ -111,7 +111,7 @@ module _ (table : List (Place ℕ)) (entries : List ℕ) (bs : List ℕ) (u : Is
       after_is : here.after ≡ Some next_character
       after_is = is.scanning.is.ahead ∙ next_is_there
 
-      -- the turn ends inside the haystack
+      -- the transition ends inside the haystack
       end_inside : end ≤ length bs
       end_inside =
           let edge = boundary_at bs (suc p) (here.at + len_utf8 next_character) u
@@ -162,7 +162,7 @@ module _ (table : List (Place ℕ)) (entries : List ℕ) (bs : List ℕ) (u : Is
         same : leads.to ≡ led.state
         same = same_some (sym leads.is_to ∙ led.is_state)
 
-        -- what is told of both, without the match
+        -- both, without the match
         reported_firsts : ((leads.to.ways ≡ []) × (after.first ≡ on.at)
             × (after.start_state_at ≡ on.at)) ⊎ ((leads.to.ways ≡ [] → ⊥)
             × (after.first ≡ first_left leads.to.restarts reported.first cursor.at)
@@ -217,7 +217,7 @@ module _ (table : List (Place ℕ)) (entries : List ℕ) (bs : List ℕ) (u : Is
             since_led table entries (chars bs) low p automaton from next_state.state after.best led
             on.at after.start_state_at (next_is.inside, next_is.bytes) free after_is_reported.1
 
-      -- the turn completes a match where the least end is asked for
+      -- the transition completes a match where the least end is asked for
       pub cursor_completed : reported.best ≡ None → (leads.to.match_flag ≡ None → ⊥)
           → (match_start : MatchStart) → IsNumberedEndOf table (chars bs) entries low
           (best_reported (Some (match_start, cursor.at)))
@@ -231,7 +231,7 @@ module _ (table : List (Place ℕ)) (entries : List ℕ) (bs : List ℕ) (u : Is
               completed table entries (chars bs) low p automaton from is.scanning transitions true
               match_start same (λ _. none) (λ other. absurd (true≢false other))
 
-      -- the turn leads from a match to nothing
+      -- the transition leads from a match to nothing
       pub cursor_over : (after : DfaPosition) → EndsScan cursor.at leads.to reported after
           → IsBestOutcomeOf table (chars bs) entries low (best_reported after.best)
       cursor_over after over =

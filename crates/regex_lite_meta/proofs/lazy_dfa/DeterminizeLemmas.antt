@@ -1,4 +1,4 @@
--- A turn that is remembered when it has been taken.
+-- A step that is cached as a transition once it has been taken.
 use Rattle.regex_lite_meta.proofs.Common.{◌≡◌, ℕ, zero, suc, ◌<◌, ◌≤◌, Bool, true, false, List, []}
 use Rattle.regex_lite_meta.proofs.Common.{◌==◌, nat_tests, not}
 use Rattle.regex_lite_meta.proofs.Common.{◌∷◌, ◌++◌, length, slice_get, slice_set, Some, None}
@@ -52,7 +52,7 @@ ways_fit table entries first threads below few own = record {
     each (t ∷ ts) below (suc k) way at =
         each ts (λ j lt. below (suc j) (omega (arith, lt))) k way at
 
--- what is remembered stays so while the ways of the threads become those of a state
+-- what is cached stays so while the ways of the threads become those of a state
 pub is_dfa_settled : (table : List (Place ℕ)) (entries : List ℕ)
     (old gathered settled : Automaton) (first : ℕ) (threads : List Thread)
     → gathered ≡ record old { pending = old.pending ++ ways_of first threads } → old.pending ≡ []
@@ -85,7 +85,7 @@ suits_after first true before None last searching some e suits = absurd (some re
 suits_after first true before (Some b) last searching some e suits =
     subst (λ l. Suits (searching_after l searching) (Some b)) (sym e) some
 
--- a search is in the state still, whatever is remembered of another or of this one
+-- a search is in the state still, whatever is cached of another or of this one
 pub still_in : {S : Type 0} (automaton : Automaton) (x class z : ℕ) (from : State)
     → slice_get automaton.states x ≡ Some from → (y first : ℕ) (before : Option ℕ) (cache : Cache S)
     → IsIn automaton y first before cache →
@@ -123,7 +123,7 @@ still_in automaton x class z from at y first before cache is_in = elim (cases_eq
 eq_there : (a b : ℕ) → (a == b) ≡ true → a ≡ b
 eq_there a b e = grind (arith, nat_tests)
 
--- whether the first start after a turn is another one
+-- whether the first start after a transition is another one
 pub next_start : {table : List (Place ℕ)} {entries : List ℕ} {S : Type 0} {automaton : Automaton}
     {x first next : ℕ} {here : Here} {match_flag : Bool} {now : Cache S}
     → (stepped : HasStepped table entries automaton x first here match_flag now)

@@ -29,7 +29,7 @@ module _ (bs : List ℕ) (u : IsUtf8 bs) (fits : length bs + 1 < 2 ^ 64) (at : �
   }
 
 module _ (bs : List ℕ) (u : IsUtf8 bs) where
-  -- a search that goes by remembered turns stands on a character boundary
+  -- a search that follows cached transitions stands on a character boundary
   module _ {table : List (Place ℕ)} {entries : List ℕ} {low p : ℕ} {automaton : Automaton}
       {at : DfaPosition} (scanning : IsScanning table entries (chars bs) low p automaton at) where
     own_offset : IsOffset (chars bs) p at.at

@@ -1,4 +1,4 @@
--- The turns that the targets of an automaton stand for.
+-- The transitions that the rows of a lazy DFA stand for.
 use Rattle.regex_lite_meta.proofs.Common.{◌≡◌, ℕ, ◌+◌, ◌<◌, List, length, true, Some, slice_get}
 use Rattle.regex_lite_meta.proofs.Common.{slice_index, slice_index_or, sym, ap, ◌∙◌, subst, IsUtf8}
 use Rattle.regex_lite_meta.proofs.Common.{IsCharBoundary, get_or_from_slice_get, interval_of}
@@ -14,7 +14,7 @@ use Rattle.std.proofs.lemmas.Str.{len_utf8_ascii}
 use Rattle.regex_lite_syntax.proofs.LookupLemmas.{there_is}
 use Rattle.regex_lite_meta.proofs.lazy_dfa.AheadLemmas.{ascii_begins}
 
--- a turn that is remembered leads to its target
+-- a cached transition leads to its next state
 pub transition_of : (table : List (Place ℕ)) (entries : List ℕ) (automaton : Automaton)
     → IsDfaOf table entries automaton → (bytes : List ℕ) (at x class end : ℕ)
     → x < length automaton.states → class < classes_in automaton.intervals
@@ -42,7 +42,7 @@ transition_of table entries automaton is_dfa bytes at x class end inside few nex
       kind = is.kind known led.0 led.1;
     }
 
--- where the turn for an ASCII character leads, if it is remembered
+-- where the transition by an ASCII character leads, if it is cached
 pub ascii_transition : (table : List (Place ℕ)) (entries : List ℕ) (automaton : Automaton)
     → IsDfaOf table entries automaton → (bs : List ℕ) (at row class : ℕ) → IsUtf8 bs
     → IsCharBoundary bs at → at < length bs → slice_index bs at < 128
@@ -61,7 +61,7 @@ ascii_transition table entries automaton is_dfa bs at row class u edge inside as
       is_class = same;
     })
 
--- the target for a class in the row of a state
+-- the next state for a class in the row of a state
 module _ (automaton : Automaton) (next_states : List NextState)
     (all : AreNextStates automaton next_states) (row class x : ℕ) (is : IsRowOf automaton row x)
     (few : class < classes_in automaton.intervals)

@@ -1,4 +1,4 @@
--- A search that gets an automaton on its way.
+-- A search that gets a lazy DFA on its way.
 use Rattle.regex_lite_meta.proofs.Common.{◌≡◌, ℕ, Bool, false, List, [], length, Some, None, sym}
 use Rattle.regex_lite_meta.proofs.Common.{ap, ◌∙◌, subst, nil_from_length, Text, best_of, best_at}
 use Rattle.regex_lite_meta.proofs.Common.{with_start_kept, best_kept, span_of, IsBestOutcomeOf, Row}
@@ -8,7 +8,7 @@ use Rattle.regex_lite_engine.specs.Graph.Places.{Place}
 use Rattle.regex_lite_engine.specs.Pikevm.Passing.{IsUnderWay}
 use Rattle.regex_lite_meta.specs.declared.lazy_dfa.run.Position.{Position}
 
--- one that remembers nothing
+-- one with an empty cache
 pub empty : Automaton
 empty = record {
   intervals = record { boundaries = []; looks = false };

@@ -1,4 +1,4 @@
--- A search that goes on by remembered turns, from where it stands to where it stands then.
+-- A search that follows cached transitions, from where it stands to where it stands then.
 use Rattle.regex_lite_meta.proofs.Common.{◌≡◌, ℕ, ◌+◌, ◌^◌, ◌<◌, ◌≤◌, List, [], length}
 use Rattle.regex_lite_meta.proofs.Common.{slice_get, Some, None, IsUtf8, Option, chars}
 use Rattle.regex_lite_meta.proofs.Common.{IsCharBoundary, sym, refl, ap, ◌∙◌, subst, inl, ◌⊎◌}
@@ -49,7 +49,7 @@ module _ {table : List (Place ℕ)} {entries : List ℕ} {h : Text} {automaton :
             r.3,
       )
 
-  -- the turn from there is taken
+  -- the transition from there is taken
   pub then_stepped : {a b next : DfaPosition} {to : ℕ} {best : Option (MatchStart × ℕ)}
       → GoesOn table entries h automaton a b
       → ((low p : ℕ) → IsScanning table entries h low p automaton b
@@ -79,7 +79,7 @@ module _ {table : List (Place ℕ)} {entries : List ℕ} {h : Text} {automaton :
             (on.1.inside, sym on.2 ∙ on.1.bytes) (none state.state state.is_state) reported.1,
       ))
 
-  -- the state there is one of the automaton
+  -- the state there is one of the lazy DFA
   pub state_there : {from at : DfaPosition} → GoesOn table entries h automaton from at
       → (low p : ℕ) × IsScanning table entries h low p automaton from →
       at.state < length automaton.states
@@ -98,7 +98,7 @@ module _ {table : List (Place ℕ)} {entries : List ℕ} {h : Text} {automaton :
     inl refl,
   )
 
-  -- what is read there is not told of it
+  -- what is read there says nothing of it
   pub kept_at_cursor : {from : DfaPosition} {cursor : DfaCursor} {reported after : DfaPosition}
       → GoesToCursor table entries h automaton from cursor reported
       → Stays reported after → GoesToCursor table entries h automaton from cursor after
@@ -111,7 +111,7 @@ module _ {table : List (Place ℕ)} {entries : List ℕ} {h : Text} {automaton :
             (sym (ap (λ (s : DfaPosition). s.start_state_at) same)) v.3,
       )
 
-  -- some turns are passed, which change no more than that
+  -- some transitions are passed, which change no more than that
   pub passed_to_cursor : {from : DfaPosition} {cursor on : DfaCursor} {reported : DfaPosition}
       → GoesToCursor table entries h automaton from cursor reported
       → ((low p : ℕ) → IsCursorAt table entries h low p automaton cursor reported → (q : ℕ)
@@ -136,7 +136,7 @@ module _ {table : List (Place ℕ)} {entries : List ℕ} {h : Text} {automaton :
       (x : ℕ) × IsRowOf automaton cursor.row x
   row_at_cursor there from = let is = (there from.0 from.1 from.2).2 in (is.x, is.row)
 
-  -- the scan moves to the spot
+  -- the scan moves to the cursor
   pub from_cursor : {from : DfaPosition} {cursor : DfaCursor} {reported : DfaPosition}
       → GoesToCursor table entries h automaton from cursor reported → (at : DfaPosition)
       → ((x : ℕ) → IsRowOf automaton cursor.row x → at ≡ record
@@ -157,7 +157,7 @@ pub none_settled : {automaton : Automaton} {row there : ℕ} (reported at : DfaP
     → (x : ℕ) × IsRowOf automaton row x → reported.best ≡ None → at.best ≡ None
 none_settled reported at same (x, is) none = ap (λ (s : DfaPosition). s.best) (same x is) ∙ none
 
--- the state to which a turn leads
+-- the state to which a transition leads
 module _ {table : List (Place ℕ)} {entries : List ℕ} {automaton : Automaton} {bs : List ℕ}
     {at x end : ℕ} {next_state : NextState}
     (leads : IsTransition table entries automaton bs at x next_state end)
@@ -187,7 +187,7 @@ module _ {table : List (Place ℕ)} {entries : List ℕ} {automaton : Automaton}
 
     module _ {next_state : NextState} {end : ℕ} (leads : (x : ℕ) → IsRowOf automaton cursor.row x
         → IsTransition table entries automaton bs cursor.at x next_state end) where
-      -- the turn is taken
+      -- the transition is taken
       pub next_cursor : (on : DfaCursor) (after : DfaPosition)
           → ((state : State) → slice_get automaton.states next_state.state ≡ Some state
           → IsTaken cursor.at next_state.row end state reported after on)
@@ -209,7 +209,7 @@ module _ {table : List (Place ℕ)} {entries : List ℕ} {automaton : Automaton}
                 next_state end transition after on own),
           )
 
-      -- the turn completes a match where the least end is asked for
+      -- the transition completes a match where the least end is asked for
       pub completes_there : {earliest : Bool} → earliest ≡ true → reported.best ≡ None
           → ((state : State) → slice_get automaton.states next_state.state ≡ Some state
           → state.match_flag ≡ None → ⊥) → (match_start : MatchStart) → (after : DfaPosition)
@@ -223,7 +223,7 @@ module _ {table : List (Place ℕ)} {entries : List ℕ} {automaton : Automaton}
           (cursor_completed table entries bs u fits low v.0 automaton cursor reported v.2 next_state
           end transition none (some transition.to transition.is_to) match_start)
 
-      -- the turn leads from a match to nothing
+      -- the transition leads from a match to nothing
       pub ends_there : (after : DfaPosition)
           → ((state : State) → slice_get automaton.states next_state.state ≡ Some state
           → EndsScan cursor.at state reported after) → (low p : ℕ)

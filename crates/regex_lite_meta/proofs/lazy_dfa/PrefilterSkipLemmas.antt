@@ -1,4 +1,4 @@
--- A search that goes by remembered turns passes over positions in the same state.
+-- A search that follows cached transitions passes over positions in the same state.
 use Rattle.regex_lite_meta.proofs.Common.{◌≡◌, ℕ, ◌≤◌, Bool, true, false, List, [], slice_get, Some}
 use Rattle.regex_lite_meta.proofs.Common.{None, sym, refl, ap, subst, inr, Text, Best, AreDeadAt}
 use Rattle.regex_lite_meta.proofs.Common.{PassesTo, Here, Automaton, Suits, best_reported, IsSince}

@@ -1,4 +1,4 @@
--- A turn after which its own position is the first start, as long as there is no match.
+-- A transition after which its own position is the first start, as long as there is no match.
 use Rattle.regex_lite_meta.proofs.Common.{◌≡◌, ℕ, ◌<◌, Bool, true, false, List, [], ◌∷◌}
 use Rattle.regex_lite_meta.proofs.Common.{◌==◌, Some, None, Option, sym, refl, ap, ◌∙◌, subst, inl}
 use Rattle.regex_lite_meta.proofs.Common.{inr, arith, nat_tests, Text, Thread, IsComing, Best}
@@ -106,7 +106,7 @@ module _ (table : List (Place ℕ)) (entries : List ℕ) (h : Text) (p first i a
     from_is = u.from_is;
   }
 
--- the position's own start is told at another position
+-- the position's own start, as another position reports it
 pub own_relabelled : (at at' number : ℕ) (reported : Reported) → TellsStart reported at number
     → TellsStart (reported_by at' (match_start_of at reported)) at' number
 own_relabelled at at' number reported tells = record {
@@ -120,7 +120,7 @@ own_relabelled at at' number reported tells = record {
     by_start (Some start) is =
         subst (λ b. IsReported (reported_if b at') at') (sym (began_there start at is)) refl
 
--- no match is told where there is none
+-- no match is reported where there is none
 pub none_again : (tell : Reported → Reported) (first i at : ℕ) (match_flag : Bool)
     (found before : Best) → found ≡ None → best_again tell at match_flag found before ≡ best_left
     (match_flag_of first match_flag found) i at before
@@ -128,7 +128,7 @@ none_again tell first i at false found before none = refl
 none_again tell first i at true None before none = refl
 none_again tell first i at true (Some found) before none = absurd (not_there (sym none))
 
--- nor was there one before the turn
+-- nor was there one before the transition
 pub none_before : (match_flag : Bool) (before now : Best) → IsMatchFlag match_flag before now → now
     ≡ None → before ≡ None
 none_before false before now same none = sym same ∙ none

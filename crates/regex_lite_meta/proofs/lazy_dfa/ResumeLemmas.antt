@@ -1,4 +1,4 @@
--- A search that is taken up where remembered turns end.
+-- A search that the PikeVM continues where no transition is cached.
 use Rattle.regex_lite_meta.proofs.Common.{◌≡◌, ℕ, zero, suc, ◌<◌, ◌≤◌, Bool, true, false, ◌⊎◌, List}
 use Rattle.regex_lite_meta.proofs.Common.{[], ◌∷◌, map, length, ◌==◌, slice_get, Some, None, All}
 use Rattle.regex_lite_meta.proofs.Common.{Option, MatchOption, sym, refl, ap, ◌∙◌, subst, inl, inr}
@@ -151,7 +151,7 @@ below_at n first ws ways e below =
     from_stored (w ∷ ws) below (suc k) lt =
         from_stored ws (λ j way at. below (suc j) way at) k (omega (arith, lt))
 
--- another first start is a position at which there was nothing to go on from
+-- another first start is a position without thread and match
 module _ {table : List (Place ℕ)} {entries : List ℕ} (bs : List ℕ) (u : IsUtf8 bs)
     {low p before first : ℕ} (since : IsSince table entries (chars bs) low p before first)
     (other : first ≡ before → ⊥) where

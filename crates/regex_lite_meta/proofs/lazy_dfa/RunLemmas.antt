@@ -102,7 +102,7 @@ module _ (table : List (Place ℕ)) (h : Text) (entries : List ℕ) (s from : �
             });
       }
 
-  -- the search is taken up at a later position, with no more threads than arrows, and than places
+  -- the search continues at a later position, with no more threads than arrows, and than places
   -- that read in any part of its own
   pub moved_on : {before : ℕ} (p r : ℕ) (cache now : Cache S)
       → IsOnItsWay table h entries s before p cache
@@ -209,7 +209,7 @@ state_from automaton (Some y) first first' before before' cache e reported known
     same (inl none) = ap (ways_of first') none ∙ sym (ap (ways_of first) none)
     same (inr f) = ap (λ z. ways_of z cache.walk.memory.threads) f
 
--- a search that has nothing to go on from is in an empty state, if that is known
+-- a search without thread and match is in a start state, if that is known
 pub maybe_in_empty : {S : Type 0} (automaton : Automaton) (state : Option ℕ) (first : ℕ)
     (before : Option ℕ) (cache : Cache S)
     → MatchOption state (Unit {0}) (λ y. IsEmptyState automaton y before) →

@@ -1,4 +1,4 @@
--- A search that goes on by remembered turns.
+-- A search that follows cached transitions.
 use Rattle.regex_lite_meta.proofs.Common.{◌≡◌, ℕ, suc, ◌+◌, Bool, true, false, ◌⊎◌, List, []}
 use Rattle.regex_lite_meta.proofs.Common.{length, slice_get, Some, None, Option, option_map, sym}
 use Rattle.regex_lite_meta.proofs.Common.{refl, ap, ◌∙◌, subst, inl, inr, arith, Text, IsComing}
@@ -32,18 +32,18 @@ same_threads : (i j : ℕ) (ways : List Way) → (ways ≡ []) ⊎ (j ≡ i)
 same_threads i j ways (inl e) = ap (threads_of i) e ∙ sym (ap (threads_of j) e)
 same_threads i j ways (inr e) = ap (λ z. threads_of z ways) (sym e)
 
--- the first start after a turn from the last offset to this state and this offset
+-- the first start after a transition from the last offset to this state and this offset
 abbrev pub IsFirstAfter : State → (last at : ℕ) → (before first : ℕ) → Type 0
 IsFirstAfter state last at before first =
     ((state.ways ≡ []) × (first ≡ at))
     ⊎ ((state.ways ≡ [] → ⊥) × (first ≡ first_left state.restarts before last))
 
--- the last offset with nothing to go on from after that
+-- the last offset in the start state after that
 abbrev pub IsStartStateAfter : State → (at : ℕ) → (before in_start : ℕ) → Type 0
 IsStartStateAfter state at before in_start = ((state.ways ≡ []) × (in_start ≡ at))
     ⊎ (in_start ≡ before)
 
--- both, as they are told
+-- both, as they are given
 pub first_and_start_state : (state : State) (last at before first before_start_state in_start : ℕ)
     → ((state.ways ≡ []) × (first ≡ at) × (in_start ≡ at))
     ⊎ ((state.ways ≡ [] → ⊥) × (first ≡ first_left state.restarts before last)
@@ -64,7 +64,7 @@ next_before h p next on = on.behind ∙ ap (before h) more
     more : p + 1 ≡ suc p
     more = omega arith
 
--- the turn before this character leads to a state in which this match is known
+-- the transition before this character leads to a state in which this match is known
 pub record TransitionsTo (table : List (Place ℕ)) (entries : List ℕ) (automaton : Automaton) (x : ℕ)
     (after : Option ℕ) (y : ℕ) (match_flag : Option StoredStart) : Type 0 where
   pub class : ℕ
@@ -129,7 +129,7 @@ module _ (table : List (Place ℕ)) (entries : List ℕ) (h : Text) (low p : ℕ
           (sym left) (coming_next (best_reported at.best) scanning.suits scanning.coming);
     }
 
-    -- a turn without a match before it ends the search where it completes one, or at the end
+    -- a transition without a match before it ends the search where it completes one, or at the end
     pub end_led : at.best ≡ None
         → ((p ≡ length h) ⊎ (best_left match_flag at.first at.at None ≡ None → ⊥)) →
         IsNumberedEndOf table h entries low (best_left match_flag at.first at.at None)
@@ -153,7 +153,7 @@ module _ (table : List (Place ℕ)) (entries : List ℕ) (h : Text) (low p : ℕ
         ends None = inl refl
         ends (Some match_start) = inr (reported_by at.first match_start, [], refl)
 
-    -- a turn completes a match that ends here. If the least end is asked for, its start says
+    -- a transition completes a match that ends here. If the least end is asked for, its start says
     -- nothing
     pub completed : {match_start : StoredStart} (earliest : Bool) (reported : MatchStart)
         → match_flag ≡ Some match_start → (earliest ≡ true → at.best ≡ None)
@@ -173,7 +173,7 @@ module _ (table : List (Place ℕ)) (entries : List ℕ) (h : Text) (low p : ℕ
         (inr (subst (λ z. best_left z at.first at.at None ≡ None → ⊥) (sym is)
         (λ e. not_there (sym e)))))
 
-  -- a turn that completes no match leads on
+  -- a transition that completes no match leads on
   pub led_none : {y : ℕ} (earliest : Bool) → (earliest ≡ true → at.best ≡ None)
       → LedTo table entries h low p automaton at y at.best
       → EndsOrLeads table entries h low p automaton earliest at y at.best
@@ -292,7 +292,7 @@ end_none table entries h low p automaton at scanning none y to here is last =
 
 module _ (table : List (Place ℕ)) (entries : List ℕ) (h : Text) (low p : ℕ) (automaton : Automaton)
     (at : DfaPosition) (y : ℕ) where
-  -- the search goes on after the turn
+  -- the search goes on after the step
   pub leads_on : (earliest : Bool) (best : Option (MatchStart × ℕ))
       → (earliest ≡ true → best ≡ None) → EndsOrLeads table entries h low p automaton earliest at y
       best → LedTo table entries h low p automaton at y best
@@ -300,7 +300,7 @@ module _ (table : List (Place ℕ)) (entries : List ℕ) (h : Text) (low p : ℕ
   leads_on true None none led = led
   leads_on true (Some found) none led = absurd (not_there (sym (none refl)))
 
-  -- it is over after the turn
+  -- it is over after the step
   pub scan_found : (here : Here) → IsHere h p here → (earliest : Bool)
       (best : Option (MatchStart × ℕ))
       → IsScanning table entries h low p automaton at → (earliest ≡ true → at.best ≡ None)

@@ -1,4 +1,4 @@
--- A search that stands at a position, and takes a turn from there.
+-- A search that stands at a position, and takes a step from there.
 use Rattle.regex_lite_meta.proofs.Common.{◌≡◌, ℕ, ◌+◌, ◌≤◌, Bool, true, false, ◌⊎◌, List, [], None}
 use Rattle.regex_lite_meta.proofs.Common.{Option, MatchOption, sym, refl, ap, ◌∙◌, subst, arith}
 use Rattle.regex_lite_meta.proofs.Common.{nil_from_length, Text, arrows_of, Thread, best_of}
@@ -28,7 +28,7 @@ use Rattle.regex_lite_engine.proofs.search.list_patterns.ListStartLemmas.{starts
 module _ {table : List (Place ℕ)} {h : Text} {entries : List ℕ} {s : ℕ} {automaton : Automaton}
     {at : Position} {S : Type 0} {cache : Cache S}
     (stands : Stands table h entries s automaton at cache) where
-  -- where its state is known, it may go by remembered turns
+  -- where its state is known, it may follow cached transitions
   scanning_there : {x : ℕ} → at.state ≡ Some x → (best : Option (MatchStart × ℕ))
       → best_of cache.best ≡ best_reported best → IsScanning table entries h stands.from stands.p
       automaton
@@ -142,7 +142,7 @@ module _ {table : List (Place ℕ)} {h : Text} {entries : List ℕ} {s : ℕ} {a
       state = maybe_in_empty now state here.at here.before cache empty none no_match;
     }
 
-  -- after the turn
+  -- after the step
   module _ {new : Cache S} (on : IsOnItsWay table h entries s stands.from (stands.p + 1) new) where
     pub bounded_after :
         IsBoundedBy (length table) (arrows_of table + length entries) h s new.walk.steps.tried
@@ -174,7 +174,7 @@ module _ {table : List (Place ℕ)} {h : Text} {entries : List ℕ} {s : ℕ} {a
         (done_after new.walk.memory.threads stands.on.after stands.is stands.on.coming none ends
         done) on.coming)
 
-    -- the turn was taken from its state, if that is known
+    -- the step was taken from its state, if that is known
     pub stepped_there : {starts : List Start} (match_flag : Bool) → AreAllStarts table entries
         starts → StepsAgain table starts at.here (started_at at.here.at) cache new match_flag
         → IsMatchFlag match_flag (best_of cache.best) (best_of new.best) →

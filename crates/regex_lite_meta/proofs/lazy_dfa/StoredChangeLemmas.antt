@@ -1,4 +1,5 @@
--- How an automaton changes when a way, a state or a turn is stored, or pending ways are dropped.
+-- How a lazy DFA changes when a way, a state or a transition is stored, or pending ways are
+-- dropped.
 use Rattle.regex_lite_meta.proofs.Common.{◌≡◌, ℕ, zero, suc, ◌+◌, ◌-◌, ◌*◌, ◌<◌, ◌≤◌, Bool, List}
 use Rattle.regex_lite_meta.proofs.Common.{[], ◌∷◌, ◌++◌, map, length, take, drop, slice_get}
 use Rattle.regex_lite_meta.proofs.Common.{slice_index, slice_set, Some, None, Option, sym, refl, ap}
@@ -61,7 +62,7 @@ states_cut states used ways classes next_states within fits =
     (let n = length-take-le used ways fits in omega (arith, n)))
     ∙ ap (λ all. states_in all classes next_states states) (take-append-drop used ways)
 
--- one more state has the row of targets that is added
+-- one more state has the row that is added
 pub states_added : (states : List StoredState) (ways : List StoredWay) (classes : ℕ)
     (next_states more : List NextState) (s : StoredState)
     → length next_states ≡ length states * classes → length more ≡ classes →
@@ -85,7 +86,7 @@ states_added (t ∷ states) ways classes next_states more s full len =
     (states_added states ways classes (drop classes next_states) more s
     (let n = length-drop classes next_states in omega (arith, n, full, own)) len)
 
--- a turn is remembered
+-- a transition is cached
 pub states_set : (states : List StoredState) (ways : List StoredWay) (classes : ℕ)
     (next_states : List NextState) (x class k : ℕ) (t : NextState) (state : State)
     → k ≡ x * classes + class → class < classes →
@@ -293,7 +294,7 @@ no_ways_still states more y match_flag own = record {
   same = own.same;
 }
 
--- and all effects that are known are still right when a blank row is added
+-- and all kinds that are known are still right when a blank row is added
 pub agree_added : (states more : List StoredState) (next_states : List NextState) (n : ℕ)
     (classes : ℕ) (blank : NextState)
     → is_known blank.kind ≡ false → known_match_flag blank.kind ≡ None
@@ -329,7 +330,7 @@ within_added states used len s within fits from own =
     (All-replicate (λ (state : StoredState). state.from + state.len ≤ len) 1 s
     (omega (arith, from, own, fits)))
 
--- no turn is known from a blank row
+-- no transition of a blank row is cached
 pub blank_row : (classes class : ℕ) (blank : NextState) → number_of blank ≡ unknown → class
     < classes → slice_index (map number_of (replicate classes blank)) class
     ≡ unknown

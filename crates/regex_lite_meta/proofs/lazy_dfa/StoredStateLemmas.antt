@@ -1,4 +1,4 @@
--- The automaton that stored states, targets and ways stand for, and what is known of each state.
+-- The lazy DFA that stored states, transitions and ways stand for, and what is known of each state.
 use Rattle.regex_lite_meta.proofs.Common.{◌≡◌, ℕ, zero, suc, ◌+◌, ◌*◌, ◌<◌, ◌≤◌, List, [], ◌∷◌, map}
 use Rattle.regex_lite_meta.proofs.Common.{Bool, length, take, drop, slice_get, slice_index}
 use Rattle.regex_lite_meta.proofs.Common.{slice_index_or, Some, Option, sym, refl, ap, ◌∙◌, subst}
@@ -20,7 +20,7 @@ use Rattle.regex_lite_syntax.proofs.LookupLemmas.{there_is}
 use Rattle.regex_lite_meta.proofs.lazy_dfa.ScanLemmas.{TransitionsTo}
 use Rattle.regex_lite_syntax.proofs.OptionLemmas.{same_some}
 
--- the targets of a state, one for each class
+-- the next states of a state, one for each class
 abbrev pub row : (classes : ℕ) → List NextState → (y : ℕ) → List NextState
 row classes next_states zero = take classes next_states
 row classes next_states (suc y) = row classes (drop classes next_states) y
@@ -52,7 +52,7 @@ row_index classes next_states (suc y) class d lt =
     ∙ ap (λ k. slice_index_or next_states k d)
     (let own = suc-mul y classes in omega (arith, own))
 
--- the number of the state to which a target leads
+-- the number of the state to which a transition leads
 pub next_at : (classes : ℕ) (next_states : List NextState) (y class : ℕ) (d : NextState) → class
     < classes → y * classes + classes ≤ length next_states
     → slice_index (map number_of (row classes next_states y)) class
@@ -81,7 +81,7 @@ length_states [] ways classes next_states = refl
 length_states (s ∷ states) ways classes next_states =
     ap suc (length_states states ways classes (drop classes next_states))
 
--- what the automaton stands for that stores these
+-- what the lazy DFA stands for that stores these
 abbrev pub seen : Intervals → (reach : Option ℕ) → List StoredState → List NextState → (used : ℕ)
     → List StoredWay → Automaton
 seen intervals reach states next_states used ways = record {
@@ -172,7 +172,7 @@ module _ (states : List StoredState) (used : ℕ) (ways : List StoredWay) (class
             ∙ own_state.same,
       )
 
-  -- what is known of a target's effect is so in its state
+  -- what the kind of a transition says is so in its state
   pub has_kind : LieWithin used states → used ≤ length ways → (next_state : NextState)
       → Agrees states classes next_state → (to : State)
       → slice_get (states_in ways classes next_states states) next_state.state ≡ Some to →
@@ -213,7 +213,7 @@ module _ (intervals : Intervals) (reach : Option ℕ) (states : List StoredState
       (is.begins ∙ ap (λ (z : Automaton). x * classes_in z.intervals) (sym view))
       ∙ mul-div_cancel x (omega arith)
 
-  -- a turn that is remembered leads on
+  -- a cached transition leads on
   module _ (table : List (Place ℕ)) (entries : List ℕ) (is_dfa : IsDfaOf table entries
       automaton) (x class y : ℕ) (inside : x < length automaton.states)
       (few : class < classes_in intervals)
@@ -274,7 +274,7 @@ module _ (intervals : Intervals) (reach : Option ℕ) (states : List StoredState
         (let fits = own_row in
         let lt = own_few in omega (arith, fits, lt))
 
-    -- the target of a state for a class is where the turn leads
+    -- the next state of a state by a class is where the transition leads
     pub next_state_is : (cell : ℕ) → cell ≡ x * classes_in automaton.intervals + class
         → (next_state : NextState) → next_state ≡ slice_index_or next_states cell next_state
         → (state : State) → slice_get automaton.states x ≡ Some state → slice_index state.next class
@@ -290,7 +290,7 @@ module _ (intervals : Intervals) (reach : Option ℕ) (states : List StoredState
         (sym same_classes) ∙ ap (λ k. number_of (slice_index_or next_states k next_state)) (sym e)
         ∙ ap number_of (sym stored)
 
-    -- the target is one of that state for that class
+    -- the transition is that of the state by the class
     pub next_state_of : LieWithin used states → used ≤ length ways → length states ≤ 256
         → AllAgree states (classes_in intervals) next_states
         → (cell : ℕ) → cell ≡ x * classes_in automaton.intervals + class → (next_state : NextState)

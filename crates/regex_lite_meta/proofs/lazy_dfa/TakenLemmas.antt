@@ -1,4 +1,4 @@
--- What a turn changes of where a scan stands, by the effect of its target.
+-- What a transition changes of a scan's position, by the kind of the transition.
 use Rattle.regex_lite_meta.proofs.Common.{◌≡◌, ℕ, Some, None, Option, sym, refl, ap, ◌∙◌, inl, inr}
 use Rattle.regex_lite_meta.proofs.Common.{MatchStart, DfaPosition, NextState, best_left}
 use Rattle.regex_lite_meta.proofs.Common.{best_reported, subst}
@@ -48,7 +48,7 @@ module _ (at row end : ℕ) (e : code.TransitionKind) (state : State) (before af
     same = same;
   }
 
--- a plain turn changes nothing else
+-- a transition that isn't special changes nothing else
 pub non_special_taken : (at end : ℕ) (next_state : NextState) (state : State)
     (reported : DfaPosition) (on : DfaCursor) → next_state.kind ≡ kind.NonSpecial → HasKind
     next_state.kind state → on.at ≡ end → on.row ≡ next_state.row →
@@ -58,7 +58,7 @@ non_special_taken at end next_state state reported on is own ends is_to =
     (ap known_match_flag is) ends is_to
     (sym (ap (λ e. first_left (is_restarting e) reported.first at) is)) refl
 
--- a turn to a state without ways, which completes no match
+-- a transition to a state without ways, which completes no match
 pub to_nothing : (at row end : ℕ) (e : code.TransitionKind) (state : State)
     (before after : DfaPosition) (there : DfaCursor) (result : Option (Option DfaCursor)) → HasKind
     e state → last_match_flag e ≡ Some None → there.at ≡ end → there.row ≡ row → TakesToNothing

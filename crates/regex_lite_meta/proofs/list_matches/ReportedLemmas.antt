@@ -32,7 +32,7 @@ module _ (table : List (Place ℕ)) (haystack : Text) (entry : ℕ) where
     λ has. refl,
   )
 
-  -- what is told from a later position on, before which no match starts, is told from here
+  -- what is reported from a later position on, before which no match starts, holds from here
   pub from_later : (s m : ℕ) (reported : Bool) → NoneStartsBefore table haystack entry s m
       → (IsTrue reported ↔ Has m) → IsTrue reported ↔ Has s
   from_later s m reported before both = (λ yes. sooner (both.0 yes), λ has. both.1 (later has))

@@ -49,7 +49,7 @@ module _ (list : StoredList) (bytes : List ℕ) (s : ℕ) (trees : List Tree)
       is.entries regular s number i j tree there match in
       (i, way, q, j, m)
 
-  -- what is told of the pattern that is entered there is told of its tree
+  -- what holds of the pattern that is entered there holds of its tree
   pub reported_of_tree : (reported : Bool) → number < length list.entries
       → IsReportedFrom table bytes entry s reported → IsTrue reported ↔ HasMatchFrom tree
       (chars bytes) s
@@ -110,7 +110,7 @@ module _ (list : StoredList) (bytes : List ℕ) (start : ℕ) where
             (record { boundary = boundary; none = none }, none);
       }
 
-  -- what is told of each pattern is told of its tree
+  -- what holds of each pattern holds of its tree
   pub reported_which : (matched : List Bool) → start ≤ length bytes
       → length matched ≡ length list.entries
       → ((number : ℕ) → number < length list.entries
@@ -129,7 +129,7 @@ module _ (list : StoredList) (bytes : List ℕ) (start : ℕ) where
             (slice_index_or matched number false) within (reported number within);
       }
 
-  -- what is told of the words is told of the trees that are nothing but these
+  -- what holds of the words holds of the trees that are nothing but these
   pub words_tell : IsUtf8 bytes → IsCharBoundary bytes start → (words : NumberedWords)
       → IsEachAnsweredBy (table_of_list list) list.entries words → (matched : List Bool)
       → length matched ≡ length list.entries → TellsWhichStand words bytes start matched

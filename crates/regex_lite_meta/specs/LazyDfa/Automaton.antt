@@ -1,4 +1,4 @@
--- The lazy DFA: its states, and the transitions (turns of a search) between them.
+-- The lazy DFA: its states, and the transitions between them.
 use Rattle.std.specs.Prelude.{◌≡◌, ◌+◌, ◌<◌, ◌≤◌, ◌==◌, ℕ, Bool, true, false, List, []}
 use Rattle.std.specs.Prelude.{map, length, slice_get, slice_index, IfSome, Option, Some, None}
 use Rattle.regex_lite_syntax.specs.Text.{Text}
@@ -17,13 +17,13 @@ use Rattle.regex_lite_engine.specs.Search.Here.{IsHere}
 use Rattle.regex_lite_engine.specs.Pikevm.Stepping.{IsComing}
 use Rattle.regex_lite_engine.specs.Search.NumberedOutcomes.{Best}
 
--- the origin of a way as a state keeps it: whether it began at the first start, and the number of
--- its pattern
+-- what a state keeps of where a way began: whether that is the first start, and the number of its
+-- pattern
 pub record StoredStart : Type 0 where
   pub first : Bool
   pub number : Option ℕ
 
--- a way: one NFA state (place) of a DFA state, with its origin
+-- a way: one NFA state (place) of a DFA state, with its start
 pub record Way : Type 0 where
   pub place : ℕ
   pub match_start : StoredStart
@@ -36,7 +36,7 @@ pub record State : Type 0 where
   pub searching : Bool
   -- the look context of the character before
   pub before : LookContext
-  -- the origin of the match that was complete at the last position
+  -- the match flag: the start of the match that was complete at the last position
   pub match_flag : Option StoredStart
   -- whether the last position is the first start from then on
   pub restarts : Bool
@@ -87,7 +87,7 @@ way_of first thread = record { place = thread.0; match_start = match_start_of fi
 abbrev pub ways_of : (first : ℕ) → List Thread → List Way
 ways_of first threads = map (way_of first) threads
 
--- the origin of the match that is complete, if one is
+-- the start of the match that is complete, if one is
 abbrev pub match_flag_of : (first : ℕ) → (match_flag : Bool) → (found : Best) → Option StoredStart
 match_flag_of first false found = None
 match_flag_of first true None = None

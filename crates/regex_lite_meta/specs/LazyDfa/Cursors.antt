@@ -12,8 +12,8 @@ use Rattle.regex_lite_meta.specs.LazyDfa.Scanning.{IsScanning, best_reported}
 use Rattle.regex_lite_meta.specs.LazyDfa.Stored.{HasKind, is_known}
 use Rattle.regex_lite_meta.specs.LazyDfa.NextStates.{IsRowOf}
 
--- a scan for a search from position low on has this spot, at position p, with this first start and
--- last match
+-- a scan for a search from position low on has this cursor, at position p, with this first start
+-- and last match
 pub record IsCursorAt (table : List (Place ℕ)) (entries : List ℕ) (haystack : Text) (low p : ℕ)
     (automaton : Automaton) (cursor : DfaCursor) (reported : DfaPosition) : Type 0 where
   pub x : ℕ
@@ -27,7 +27,7 @@ pub record IsCursorAt (table : List (Place ℕ)) (entries : List ℕ) (haystack 
   })
 
 -- wherever a search in state x is before a character of the class of the one at this offset, its
--- transition leads to the target's state, and here to the end of that character
+-- transition leads to this next state, and here to the end of that character
 pub record IsTransition (table : List (Place ℕ)) (entries : List ℕ) (automaton : Automaton)
     (bytes : List ℕ) (at x : ℕ) (next_state : NextState) (end : ℕ) : Type 0 where
   pub class : ℕ
@@ -40,7 +40,7 @@ pub record IsTransition (table : List (Place ℕ)) (entries : List ℕ) (automat
   pub leads : LeadsOn table entries automaton.intervals from class to
   pub kind : HasKind next_state.kind to
 
--- if the transition from the state with this row is cached, this is its target
+-- if the transition from the state with this row is cached, it leads to this next state
 abbrev pub LeadsIfKnown : List (Place ℕ) → List ℕ → Automaton → (bytes : List ℕ) → (at row : ℕ)
     → NextState → (end : ℕ) → Type 0
 LeadsIfKnown table entries automaton bytes at row next_state end =
@@ -68,7 +68,7 @@ pub record EndsScan (at : ℕ) (state : State) (before after : DfaPosition) : Ty
   pub some : best_reported after.best ≡ None → ⊥
   pub same : after ≡ record before { at = after.at; best = after.best }
 
--- nothing is changed but the scan's position, which its spot has
+-- nothing is changed but the scan's position, which its cursor has
 abbrev pub Stays : (before after : DfaPosition) → Type 0
 Stays before after = after ≡ record before { at = after.at }
 
@@ -79,7 +79,7 @@ Takes at row end state before after (Some (Some on)) = IsTaken at row end state 
 Takes at row end state before after (Some None) = EndsScan at state before after
 Takes at row end state before after None = Stays before after
 
--- the outcome of a transition to the start state, with this spot
+-- the outcome of a transition to the start state, with this cursor
 abbrev pub TakesToNothing : (there : DfaCursor) → (before after : DfaPosition) → Option
     (Option DfaCursor) → Type 0
 TakesToNothing there before after (Some (Some on)) =

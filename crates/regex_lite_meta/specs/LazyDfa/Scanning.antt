@@ -17,7 +17,7 @@ use Rattle.regex_lite_engine.specs.Search.Offsets.{IsOffset}
 use Rattle.regex_lite_engine.specs.Search.Here.{IsHere}
 use Rattle.regex_lite_engine.specs.Pikevm.Stepping.{IsComing}
 
--- the match with this origin and end, without slots
+-- the match with this start and end, without slots
 abbrev pub best_reported : Option (MatchStart × ℕ) → Best
 best_reported found = best_kept found []
 

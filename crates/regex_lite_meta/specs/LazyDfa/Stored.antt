@@ -21,7 +21,7 @@ match_flag_in stored.Nowhere = None
 match_flag_in (stored.AtFirst number) = Some (record { first = true; number = Some number })
 match_flag_in (stored.AtLater number) = Some (record { first = false; number = Some number })
 
--- whether a transition with this effect is cached
+-- whether a transition of this kind is cached
 abbrev pub is_known : kinds.TransitionKind → Bool
 is_known kind.NonSpecial = true
 is_known kind.Completes = true
@@ -39,7 +39,7 @@ number_if false y = unknown
 abbrev pub number_of : NextState → ℕ
 number_of next_state = number_if (is_known next_state.kind) next_state.state
 
--- the state, whose ways lie among those of all states, and whose transitions lead to these targets
+-- the state, whose ways lie among those of all states, and whose row is this
 abbrev pub state_in : List StoredWay → List NextState → StoredState → State
 state_in ways next_states state = record {
   ways = map way_in (take state.len (drop state.from ways));
@@ -50,7 +50,7 @@ state_in ways next_states state = record {
   next = map number_of next_states;
 }
 
--- the states, each of which has its own row of targets, one for each class
+-- the states, each of which has its own row, with a transition for each class
 abbrev pub states_in : List StoredWay → (classes : ℕ) → List NextState → List StoredState → List
     State
 states_in ways classes next_states [] = []
@@ -62,7 +62,7 @@ states_in ways classes next_states (state ∷ states) =
 abbrev pub LieWithin : (used : ℕ) → List StoredState → Type 0
 LieWithin used states = All (λ state. state.from + state.len ≤ used) states
 
--- the origin of the match that a transition with this effect completes, if it is known that the
+-- the start of the match that a transition of this kind completes, if it is known that the
 -- transition leads to a state with ways
 abbrev pub known_match_flag : kinds.TransitionKind → Option (Option StoredStart)
 known_match_flag kind.NonSpecial = Some None
@@ -73,7 +73,7 @@ known_match_flag kind.Restarts = Some None
 known_match_flag kind.ByState = None
 known_match_flag kind.Unknown = None
 
--- the origin of the match that a transition with this effect completes, if it is known that the
+-- the start of the match that a transition of this kind completes, if it is known that the
 -- transition leads to a state without ways
 abbrev pub last_match_flag : kinds.TransitionKind → Option (Option StoredStart)
 last_match_flag kind.NonSpecial = None
@@ -84,7 +84,7 @@ last_match_flag kind.Restarts = None
 last_match_flag kind.ByState = None
 last_match_flag kind.Unknown = None
 
--- whether the position of a transition with this effect is the first start from then on
+-- whether the position of a transition of this kind is the first start from then on
 abbrev pub is_restarting : kinds.TransitionKind → Bool
 is_restarting kind.NonSpecial = false
 is_restarting kind.Completes = false
@@ -94,14 +94,14 @@ is_restarting kind.Restarts = true
 is_restarting kind.ByState = false
 is_restarting kind.Unknown = false
 
--- a transition with this effect can lead to this state
+-- a transition of this kind can lead to this state
 pub record HasKind (e : kinds.TransitionKind) (state : State) : Type 0 where
   pub goes : (match_flag : Option StoredStart) → known_match_flag e ≡ Some match_flag
       → (state.ways ≡ [] → ⊥) × (state.match_flag ≡ match_flag) × (state.restarts ≡ is_restarting e)
   pub ends : (match_flag : Option StoredStart) → last_match_flag e ≡ Some match_flag
       → (state.ways ≡ []) × (state.match_flag ≡ match_flag)
 
--- the state with this number has no ways, and this is the origin of the match that is complete
+-- the state with this number has no ways, and this is the start of the match that is complete
 pub record HasNoWays (states : List StoredState) (y : ℕ) (match_flag : Option StoredStart)
     : Type 0 where
   pub state : StoredState
@@ -109,8 +109,8 @@ pub record HasNoWays (states : List StoredState) (y : ℕ) (match_flag : Option 
   pub none : state.len ≡ 0
   pub same : match_flag_in state.match_flag ≡ match_flag
 
--- the state with this number has ways, this is the origin of the match that is complete, and this
--- is whether the last position is the first start from then on
+-- the state with this number has ways, this is the start of the match that is complete, and this is
+-- whether the last position is the first start from then on
 pub record HasWays (states : List StoredState) (y : ℕ) (match_flag : Option StoredStart)
     (restarts : Bool) : Type 0 where
   pub state : StoredState
@@ -119,8 +119,8 @@ pub record HasWays (states : List StoredState) (y : ℕ) (match_flag : Option St
   pub same : match_flag_in state.match_flag ≡ match_flag
   pub first : state.restarts ≡ restarts
 
--- if the transition is cached, the target has the number of a state and the start of its row, and
--- its effect agrees with the state
+-- if the transition is cached, it has the number of a state and the start of its row, and its kind
+-- agrees with the state
 pub record Agrees (states : List StoredState) (classes : ℕ) (next_state : NextState) : Type 0 where
   pub row : is_known next_state.kind ≡ true → next_state.row ≡ next_state.state * classes
   pub within : is_known next_state.kind ≡ true → next_state.state < length states

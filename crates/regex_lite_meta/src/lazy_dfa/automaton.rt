@@ -26,13 +26,13 @@ use std::marker::Model;
 pub(crate) struct LazyDfa {
     pub(super) classes: Classes,
     pub(super) states: Vec<StoredState>,
-    /// The transition table: a row for each state, with a target for each class of the next
+    /// The transition table: a row for each state, with a transition for each class of the next
     /// character.
     next_states: Vec<NextState>,
-    /// The number of targets in a row.
+    /// The number of transitions in a row.
     width: usize,
-    /// The ways (NFA states with their origins) of all states, followed by the pending ways: those
-    /// of the next state to be added.
+    /// The ways (NFA states, each with its start and its pattern) of all states, followed by the
+    /// pending ways: those of the next state to be added.
     ways: Vec<StoredWay>,
     /// The number of ways that belong to states.
     used: usize,
@@ -234,7 +234,7 @@ impl LazyDfa {
         self.next_states[cell] = next_state;
     }
 
-    /// The target of the transition from this state, if it is cached.
+    /// The transition from this state, if it is cached.
     #[inline(always)]
     pub(super) fn cached_state(&self, x: u16, class: usize) -> Option<NextState>
         requires state { x < length self.now.states }
@@ -250,7 +250,7 @@ impl LazyDfa {
         Some(next_state)
     }
 
-    /// The target in this row for this class.
+    /// The transition in this row for this class.
     #[inline(always)]
     pub(super) fn next_state(&self, row: usize, class: usize) -> NextState
         requires row { (x : ℕ) × IsRowOf self.now row x }
@@ -260,7 +260,7 @@ impl LazyDfa {
         self.next_states()[row + class]
     }
 
-    /// The targets of all rows.
+    /// The transitions of all rows.
     #[inline(always)]
     pub(super) fn next_states(&self) -> &[NextState]
         ensures { AreNextStates self.now result.now }

@@ -4,13 +4,13 @@ use crate::lazy_dfa::classes::Classes;
 /// At most this many states are kept.
 pub(super) const MOST_STATES: usize = 256;
 
-/// At most this many targets are kept: one for each state and class.
+/// At most this many transitions are kept: one for each state and class.
 const MOST_TRANSITIONS: usize = 7168;
 
 /// At most this many ways are kept, in all states together.
 const MOST_WAYS: usize = 2176;
 
-/// The numbers of states, targets and ways that fit.
+/// The numbers of states, transitions and ways that fit.
 #[derive(Clone, Copy)]
 pub(crate) struct Capacity {
     pub states: usize,

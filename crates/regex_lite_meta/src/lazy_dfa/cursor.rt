@@ -55,7 +55,7 @@ impl LazyDfa {
 }
 
 impl DfaCursor {
-    /// The position after a transition to this target and offset.
+    /// The position after a transition to this state and offset.
     #[inline(always)]
     pub(super) fn after(self, next_state: NextState, end: usize) -> DfaCursor
         ensures at { result.at ≡ end }
@@ -83,7 +83,7 @@ impl DfaCursor {
     }
 }
 
-/// Takes the transition to this target and offset if its effect determines the outcome. Returns the
+/// Takes the transition to this state and offset if its kind determines the outcome. Returns the
 /// scan's new position, or `Some(None)` if the search is over. `None` if the transition isn't
 /// taken: if only the state determines the outcome, after too many consecutive transitions from the
 /// start state to itself and, if EARLIEST, if it completes a match.

@@ -274,7 +274,7 @@ fn has_just_ended(at: Position, cache: &Cache<MatchStart>) -> bool {
     end.saturating_add(byte_len(last)) == at.here.at
 }
 
-/// The origin of the match that this transition completed, if it completed one.
+/// The match flag of the state that this transition leads to.
 fn flag_of_match(first: usize, match_flag: bool, cache: &Cache<MatchStart>) -> MatchFlag
     ensures { match_flag_in result ≡ match_flag_of first match_flag (best_of cache.now.best) }
 {

@@ -2,10 +2,10 @@
 //!
 //! The loop knows an offset and the row of a state, and finds the state by a division when it ends.
 //! Transitions for ASCII characters that are not special are a loop within the loop, so that the
-//! address of the targets stays in a register. Other characters remember the interval of the last
-//! one, since the letters of a script mostly lie in one. A class for each byte would save
-//! instructions for ASCII and cost more than that for Cyrillic texts. What changes only with a
-//! match or at the start state stays in memory, in `DfaPosition`.
+//! address of the table stays in a register. Other characters keep the interval of the last one,
+//! since the letters of a script mostly lie in one. A class for each byte would save instructions
+//! for ASCII and cost more than that for Cyrillic texts. What changes only with a match or at the
+//! start state stays in memory, in `DfaPosition`.
 ghost use Rattle.std.specs.Prelude.{◌≡◌, ◌+◌, ◌<◌, ◌≤◌, ℕ, IfSome, IsCharBoundary, None, Some};
 ghost use Rattle.std.specs.Prelude.{chars, false, true, length, slice_get};
 ghost use Rattle.regex_lite_meta.specs.LazyDfa.Automaton.{IsDfaOf, State, first_left};
@@ -86,8 +86,7 @@ impl LazyDfa {
     }
 
     /// Follows transitions that change only the state, as most do, while the characters are ASCII.
-    /// Returns the scan's position then and, if the next character is ASCII too, the target of its
-    /// transition.
+    /// Returns the scan's position then and, if the next character is ASCII too, its transition.
     #[inline(always)]
     fn pass_non_special<P: Patterns>(
         &self,
@@ -125,8 +124,8 @@ impl LazyDfa {
         (cursor, None)
     }
 
-    /// The target of the transition from this position, and the offset after the character. `None`
-    /// at the end of the haystack. For an ASCII character the target may be given.
+    /// The transition from this position, and the offset after the character. `None` at the end of
+    /// the haystack. For an ASCII character the transition may be given.
     #[inline(always)]
     fn transition<P: Patterns>(
         &self,
@@ -158,10 +157,10 @@ impl LazyDfa {
         Some((self.next_state(cursor.row, class), end))
     }
 
-    /// Takes the transition to this target and offset as the target's state says. Returns the
-    /// scan's new position, or `Some(None)` if the search is over, since no thread is left after
-    /// its match. `None` if the transition isn't taken: it completes a match whose start isn't
-    /// known, or there were too many consecutive transitions from the start state to itself.
+    /// Takes the transition to this state and offset as the state says. Returns the scan's new
+    /// position, or `Some(None)` if the search is over, since no thread is left after its match.
+    /// `None` if the transition isn't taken: it completes a match whose start isn't known, or there
+    /// were too many consecutive transitions from the start state to itself.
     #[inline(always)]
     fn take_by_state(
         &self,
@@ -208,7 +207,7 @@ impl LazyDfa {
         }
     }
 
-    /// The origin of the match that is complete in this state.
+    /// The match flag of this state.
     #[inline(always)]
     #[tactic(auto, using(crate::proofs::lazy_dfa::StoredStateLemmas::length_states))]
     fn match_flag(&self, x: u16) -> MatchFlag

@@ -1,7 +1,7 @@
 //! The places of a table that searches for some patterns can reach.
 //!
-//! The classes and the reach of an automaton are those of its patterns' own part alone. Patterns
-//! lie side by side in the table of a list, so the least row of places that no arrow leaves is that
+//! The classes and the reach of a lazy DFA are those of its patterns' own part alone. Patterns lie
+//! side by side in the table of a list, so the least row of places that no arrow leaves is that
 //! part, and to read the parts of all patterns takes time linear in the list. A transition is then
 //! the same wherever the places of the part see the same. The classes of a whole list would be
 //! more, and transitions would repeat less often.
@@ -65,7 +65,7 @@ impl PlaceRange {
         }
     }
 
-    /// Extends the part to the targets of this place's arrows.
+    /// Extends the part to the places that this place's arrows lead to.
     #[inline(always)]
     fn take_in_next_states(&mut self, place: &Place)
         requires order { self.old.low ≤ self.old.end }

@@ -1,7 +1,7 @@
 //! One-off searches with a lazy DFA, for one pattern or for several.
 //!
-//! A match near the start costs no memory for an automaton, since the first steps are the PikeVM's.
-//! The search goes on in the state in which it is then. Where the automaton of a list is given up,
+//! A match near the start costs no memory for a lazy DFA, since the first steps are the PikeVM's.
+//! The search goes on in the state in which it is then. Where the lazy DFA of a list is given up,
 //! it goes on by the index from where it is: to begin again would count the same tries twice.
 ghost use Rattle.std.specs.Prelude.{◌≡◌, ◌<◌, ◌+◌, ℕ, IfErr, IfOk, IfSome};
 ghost use Rattle.std.specs.Prelude.{IsCharBoundary, None, chars, length, true};

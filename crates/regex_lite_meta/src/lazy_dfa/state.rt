@@ -17,8 +17,8 @@ pub(crate) struct StoredWay {
     pub is_first: bool,
 }
 
-/// The match flag of a state: the origin of the match that was complete, with the number of its
-/// pattern.
+/// The match flag of a state: whether a match was complete, whether it began at the first start,
+/// and the number of its pattern.
 #[derive(Clone, Copy)]
 pub(crate) enum MatchFlag {
     /// No match was complete.
@@ -46,18 +46,18 @@ pub(crate) struct StoredState {
 // A lazy DFA has hundreds of them.
 const _: () = prove!(size_of::<StoredState>() == 32);
 
-/// The target of a transition.
+/// Where a transition leads: the next state, and the kind of the transition.
 #[derive(Clone, Copy)]
 pub(crate) struct NextState {
-    /// The start of the state's row in the list of all targets.
+    /// The start of the state's row in the transition table.
     pub row: u16,
     /// The number of the state.
     pub state: u8,
-    // The last field, so that one comparison of all bytes tells whether the transition is plain.
+    // The last field, so that one comparison of all bytes tells whether the transition is special.
     pub kind: TransitionKind,
 }
 
-/// The flags of a transition: what it does besides changing the state, as far as that is known
+/// The kind of a transition: what it does besides changing the state, as far as that is known
 /// without reading the state.
 #[derive(Clone, Copy)]
 pub(crate) enum TransitionKind {
@@ -74,7 +74,7 @@ pub(crate) enum TransitionKind {
     /// The state has threads, no match was complete, and the position of the transition is the
     /// first start from there on.
     Restarts,
-    /// The effect is given by the state.
+    /// The state says what it does.
     ByState,
     /// The transition isn't cached.
     Unknown,
@@ -99,7 +99,7 @@ pub(crate) fn are_same(ways: &[StoredWay], others: &[StoredWay]) -> bool
 }
 
 impl NextState {
-    /// The target, if the transition is cached.
+    /// The transition, if it is cached.
     #[inline(always)]
     pub(super) fn cached(self) -> Option<NextState>
         ensures { IfSome result (λ next_state. (next_state ≡ self) × (is_known self.kind ≡ true)) }
@@ -145,7 +145,7 @@ impl StoredState {
             && self.match_flag.is(match_flag)
     }
 
-    /// The effect of a transition to this state.
+    /// The kind of a transition to this state.
     pub(crate) fn kind(&self) -> TransitionKind
         ensures known { is_known result ≡ true }
         ensures some { (match_flag : Option StoredStart) → known_match_flag result ≡ Some match_flag

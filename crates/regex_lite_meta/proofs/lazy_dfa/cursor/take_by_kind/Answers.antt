@@ -7,7 +7,7 @@ use Rattle.regex_lite_meta.proofs.lazy_dfa.TakenLemmas.{best_kept, ends_scan, go
 use Rattle.regex_lite_meta.proofs.lazy_dfa.TakenLemmas.{non_special_taken, takes_after, to_nothing}
 use Rattle.regex_lite_meta.proofs.lazy_dfa.cursor.take_by_kind.Goals as goal
 
--- the match that the turn completes is that of the first pattern
+-- the match that the transition completes is that of the first pattern
 pub returns-in-Completes-clause-taken : goal.returns-in-Completes-clause-taken
 returns-in-Completes-clause-taken g c = λ state own.
     let before : DfaPosition = c.args.at.now in

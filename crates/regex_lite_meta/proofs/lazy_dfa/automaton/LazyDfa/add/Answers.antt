@@ -136,7 +136,7 @@ returns-in-Ok-push-clause-none_pending c = λ reported.
     ap (λ n. map way_in (drop n ways)) (c.len-self-inside.ensures ∙ count)
     ∙ ap (map way_in) (drop-length ways)
 
--- without the state there are the targets that there were
+-- without the state there are the rows that there were
 next_states_left : (c : After-truncate) →
     c.resize.new.self.items
     ≡ c.self.inside.next_states.items ++ replicate (classes_in c.self.inside.classes) blank →

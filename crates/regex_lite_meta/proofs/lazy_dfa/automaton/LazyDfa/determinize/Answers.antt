@@ -11,7 +11,7 @@ use Rattle.regex_lite_meta.proofs.lazy_dfa.automaton.LazyDfa.determinize.Goals a
 use Rattle.regex_lite_meta.proofs.lazy_dfa.automaton.LazyDfa.determinize.Goals.{After-settle}
 use Rattle.regex_lite_meta.proofs.lazy_dfa.automaton.LazyDfa.determinize.Goals.{Else-not-gather}
 
--- the turn was taken from the state that is known
+-- the step was taken from the state that is known
 stepped_there : (g : given.Over) (c : Else-not-gather g) →
     HasStepped (g.P.Patterns.table c.args.patterns.now) (g.P.Patterns.entries c.args.patterns.now)
     c.args.self.now c.in-Some.x c.args.at.first c.args.at.here c.args.match_flag c.args.cache.now
@@ -22,7 +22,7 @@ stepped_there g c =
     (g.P.Patterns.entries patterns) a.self.now x a.at.first a.at.here a.match_flag a.cache.now))
     c.in-Some.is c.requires.stepped
 
--- the state that the turn was taken from is there once the ways are gathered
+-- the state that the step was taken from is there once the ways are gathered
 own_state : (g : given.Over) (c : Else-not-gather g) →
     slice_get c.gather.new.self.states c.in-Some.x ≡ Some (stepped_there g c).is_in.state
 own_state g c =
@@ -30,7 +30,7 @@ own_state g c =
     (c.if-not-gather.ensures.gathered refl)
     ∙ (stepped_there g c).is_in.is_state
 
--- what is remembered once the state that is come to has its place
+-- what is cached once the next state has its place
 settled : (g : given.Over) (c : After-settle g) →
     (c.gather.new.self.pending ≡ ways_of c.args.first c.args.cache.now.walk.memory.threads)
     × IsDfaOf (g.P.Patterns.table c.args.patterns.now) (g.P.Patterns.entries c.args.patterns.now)

@@ -16,7 +16,7 @@ use Rattle.regex_lite_meta.proofs.lazy_dfa.automaton.LazyDfa.pass_non_special.Go
 pub non_special-init : goal.non_special-init
 non_special-init g c = record { on = λ low p is. (p, omega arith, is); later = omega arith }
 
--- where a search stands before the turn
+-- where a search stands before the transition
 there : (g : given.Over) (c : After-ascii_class g) → (low p : ℕ)
     × IsCursorAt (g.P.Patterns.table c.args.patterns.now) (g.P.Patterns.entries c.args.patterns.now)
     (chars c.args.haystack.now) low p c.args.self.now c.non_special.cursor c.args.at.now
@@ -47,7 +47,7 @@ next_state g c =
       kind = kind.NonSpecial;
     })
 
--- where the turn leads, if it is remembered
+-- where the transition leads, if it is cached
 leads : (g : given.Over) (c : After-ascii_class g) → LeadsIfKnown
     (g.P.Patterns.table c.args.patterns.now) (g.P.Patterns.entries c.args.patterns.now)
     c.args.self.now c.args.haystack.now c.non_special.cursor.at c.non_special.cursor.row

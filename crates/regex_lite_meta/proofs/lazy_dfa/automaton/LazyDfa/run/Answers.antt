@@ -38,7 +38,7 @@ pub
 pass_non_special-ascii-requires-clause-scanning g c =
     scans_at_cursor c.transitions.invariant.on c.requires.scanning
 
--- some plain turns are passed
+-- some transitions that are not special are passed
 passed : (g : given.Over) (c : After-pass_non_special-ascii g)
     → GoesToCursor (g.P.Patterns.table c.args.patterns.now)
     (g.P.Patterns.entries c.args.patterns.now) (chars c.args.haystack.now) c.args.self.now
@@ -136,7 +136,7 @@ returns-in-Some-None-clause-over g c = λ _ low p from.
     (ends_there c.args.haystack.now c.utf8.haystack (omega arith)
     (passed g own.After-pass_non_special-ascii) transition c.take_by_kind.new.at ends low p from)
 
--- the turn isn't taken by its effect
+-- the transition isn't taken by its kind
 there : (g : given.Over) (c : In-None g)
     → GoesToCursor (g.P.Patterns.table c.args.patterns.now)
     (g.P.Patterns.entries c.args.patterns.now) (chars c.args.haystack.now) c.args.self.now
@@ -150,7 +150,7 @@ none : (g : given.Over) (c : In-None g) → not (g.row.EARLIEST == 0) ≡ true
 none g c earliest =
     c.take_by_kind.ensures.earliest earliest ∙ c.transitions.invariant.none earliest
 
--- where it leads, since it is remembered
+-- where it leads, since it is cached
 led : (g : given.Over) (c : In-Some-cached g) → (x : ℕ)
     → IsRowOf c.args.self.now c.pass_non_special-ascii.result.0.row x
     → IsTransition (g.P.Patterns.table c.args.patterns.now)
@@ -175,7 +175,7 @@ is_last-requires-clause-kind g c =
     let is = row g own.After-pass_non_special-ascii in
     transition_kind (led g own.In-Some-cached is.0 is.1)
 
--- a turn completes a match where the least end is asked for
+-- a transition completes a match where the least end is asked for
 pub returns-then-is_last-clause-over : goal.returns-then-is_last-clause-over
 returns-then-is_last-clause-over g c = λ _ low p from.
     let own = goal.at.returns-then-is_last-clause-over g c in

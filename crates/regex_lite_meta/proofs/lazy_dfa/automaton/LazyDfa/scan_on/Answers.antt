@@ -36,7 +36,7 @@ skip-requires g c =
     from.0 from.1 from.2 in
     record { scanning = (from.0, r.0, r.2) }
 
--- by turns, and over positions at which no match can begin
+-- by transitions, and over positions at which no match can begin
 past : (g : given.Over) (c : After-skip g) →
     GoesOn (g.P.Patterns.table c.args.patterns.now) (g.P.Patterns.entries c.args.patterns.now)
     (chars c.args.haystack.now) c.args.self.now c.positions.at c.skip.new.at
@@ -116,7 +116,7 @@ none_yet : (g : given.Over) (c : After-go_on g) → not (g.row.EARLIEST == 0) �
 none_yet g c = λ earliest.
     c.is_over.ensures.none_yet earliest (not_true c.is_over.result c.if-is_over.false)
 
--- by the turn after that
+-- by the transition after that
 stepped : (g : given.Over) (c : After-go_on g) →
     GoesOn (g.P.Patterns.table c.args.patterns.now) (g.P.Patterns.entries c.args.patterns.now)
     (chars c.args.haystack.now) c.args.self.now c.positions.at c.go_on.new.at

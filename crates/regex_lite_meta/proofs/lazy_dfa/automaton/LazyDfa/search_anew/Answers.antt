@@ -5,7 +5,7 @@ use Rattle.regex_lite_meta.proofs.lazy_dfa.automaton.LazyDfa.search_anew.Given a
 use Rattle.regex_lite_meta.proofs.lazy_dfa.automaton.LazyDfa.search_anew.Goals as goal
 use Rattle.regex_lite_meta.proofs.lazy_dfa.automaton.LazyDfa.search_anew.Goals.{After-begun-begun}
 
--- the search stands at its beginning
+-- the search stands at its start
 begun : (g : given.Over) (c : After-begun-begun g) (s : ℕ)
     → GoesOnFrom (g.P.Patterns.table c.args.patterns.now) (g.P.Patterns.entries c.args.patterns.now)
     c.args.haystack.now c.args.from s

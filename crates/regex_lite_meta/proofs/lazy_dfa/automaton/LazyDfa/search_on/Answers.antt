@@ -35,7 +35,7 @@ IsAfter g c s =
     GoesOnFrom (g.P.Patterns.table c.args.patterns.now) (g.P.Patterns.entries c.args.patterns.now)
     c.args.haystack.now c.args.from s
 
--- how far remembered turns have come
+-- how far cached transitions have led
 comes : (g : given.Over) (c : After-begun-at g) (s : ℕ) → IsAfter g c s
     → ComesTo (g.P.Patterns.table c.args.patterns.now) (g.P.Patterns.entries c.args.patterns.now)
     (chars c.args.haystack.now) s (position_at c.args.haystack.now c.args.from) c.args.from
@@ -43,7 +43,7 @@ comes : (g : given.Over) (c : After-begun-at g) (s : ℕ) → IsAfter g c s
 comes g c s skips =
     comes_on (c.requires.scanned s skips) (c.scan_on.ensures.on c.if-scan_on.false)
 
--- the search stands at its beginning, and remembered turns have come so far from there
+-- the search stands at its start, and cached transitions have led so far from there
 begun : (g : given.Over) (c : After-begun-at g) (s : ℕ) → IsAfter g c s
     → (stands : Stands (g.P.Patterns.table c.args.patterns.now) (chars c.args.haystack.now)
     (g.P.Patterns.entries c.args.patterns.now) s c.args.self.now c.begun-at.result

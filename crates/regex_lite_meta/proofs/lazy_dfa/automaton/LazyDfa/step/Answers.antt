@@ -18,7 +18,7 @@ index-requires g c =
     c.in_ok-to.ensures.known in
     search (inside, rules)
 
--- where the turn leads, and where the way began by which a match is complete then
+-- where the transition leads, and where the way began by which a match is complete then
 led : (g : given.Over) (c : After-index g) →
     TransitionsTo (g.P.Patterns.table c.args.patterns.now)
     (g.P.Patterns.entries c.args.patterns.now) c.args.self.now c.args.at.now.state c.args.here.after
@@ -80,7 +80,7 @@ returns-else-not-this-clause-led g c = λ haystack low p scanning is.
     }) (ap match_flag_in c.in-AtLater.is) c.requires.none
     (λ other. absurd (c.if-not-this.false (search (other, rules)))))
 
--- the state to which the turn leads is one of the automaton
+-- the next state is one of the lazy DFA
 within : (g : given.Over) (c : After-index g)
     → c.in_ok-to.field-0.state < length c.args.self.now.states
 within g c =

@@ -5,7 +5,7 @@ use Rattle.regex_lite_engine.proofs.Common.{IsTrue, is_some}
 use Rattle.regex_lite_engine.proofs.search.OutcomeLemmas.{can_count}
 use Rattle.regex_lite_meta.proofs.list_matches.kept.DfaSearcher.search.Goals as goal
 
--- there is a match where it is told of one
+-- there is a match where one is reported
 some_reported : (found : Option (MatchStart × ℕ)) → is_some (best_reported found) ≡ is_some found
 some_reported None = refl
 some_reported (Some found) = refl
