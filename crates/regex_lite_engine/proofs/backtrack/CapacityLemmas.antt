@@ -46,7 +46,7 @@ module _ (haystack : Text) (p at : ℕ) (held held' : Held) (done : Bool) where
   open held use {row, frames}
   open held' use {row as row', frames as frames'}
 
-  -- this many arrows, and this much that is kept back
+  -- this many arrows, and this stack bound
   abbrev pub IsFew : (arrows kept : ℕ) → Type 0
   IsFew arrows kept =
       (explores frames' ≤ explores frames + arrows)
@@ -101,7 +101,7 @@ module _ (haystack : Text) (p at : ℕ) (held held' : Held) (done : Bool) where
         ap length marked ∙ length-set row slot (Some at),
       )
 
-  -- it adds no more frames than the place has arrows, or keeps back
+  -- it adds no more frames than the place has arrows, or than its stack bound
   pub enters_few : (x : code.Place) → Enters haystack p at x held held' done
       → IsFew (arrow_count (place_of x)) (stack_bound_with (length row) (place_of x))
   enters_few (stored.Empty to) (e, going) =

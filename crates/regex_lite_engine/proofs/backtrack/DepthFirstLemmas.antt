@@ -87,7 +87,7 @@ module _ (N : Type 0) (step : N → ℕ → Option N) (start : ℕ → N) (is_en
             subst (λ z. NotAfter v z) (sym e.1) (u.ahead n w n v (inl (refl, refl)) r),
           ))
 
-  -- The next start is offered. Those between that lead to no end are left out
+  -- The next start is added. Those between that lead to no end are left out
   pub depth_first_started : (from p : ℕ) (recorded : Recorded) → from ≤ p → first ≤ p → p ≤ last
       → ((i : ℕ) → from ≤ i → i < p → IsDead (start i)) → IsDepthFirst from recorded []
       → IsDepthFirst (suc p) recorded ((start p, p ∷ []) ∷ [])

@@ -247,7 +247,7 @@ module _ (table : List (Place ℕ)) (search : SearchFrom) (pairs : Pairs) (held 
   settle row' frames' held' done w same open_still =
       subst (Entered held') (sym open_still) (subst (λ h. Entered h false) (sym same) w)
 
-  -- the walk goes on from what the place offers, or a match is complete
+  -- the walk goes on from the pending nodes that the place adds, or a match is complete
   pub walk_enters : (x : code.Place) (held' : Held) (done : Bool)
       → place_with table q ≡ place_of x
       → Enters haystack p at x held held' done → Entered held' done

@@ -70,7 +70,7 @@ module _ (table : List (Place ℕ)) (haystack : List ℕ) where
     pub fit : IsFit table haystack walk'
     pub less : work table haystack walk' ≤ work table haystack walk
 
-  -- the last that was left for later is taken up
+  -- the last deferred frame is popped
   pub went_back : (walk walk' : Backtracker) (next : Option (ℕ × ℕ))
       → Restores walk.stack.row walk.stack.frames next walk'.stack.row walk'.stack.frames
       → walk' ≡ record walk { stack = walk'.stack }

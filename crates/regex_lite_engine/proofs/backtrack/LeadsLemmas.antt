@@ -88,7 +88,7 @@ module _ (bytes : List ℕ) (utf8 : IsUtf8 bytes) where
         reported false w = w
         reported true w = w
 
-  -- the start at position r is taken up, where those between lead to no end
+  -- the start at position r is taken, where those between lead to no end
   module _ (table : List (Place ℕ)) (s start p r at : ℕ) (walk walk' : Backtracker)
       (begins : walk.visited.first ≡ start) (later : p ≤ r) (low : position_at bytes start ≤ r)
       (is_offset : IsOffset (chars bytes) r at)

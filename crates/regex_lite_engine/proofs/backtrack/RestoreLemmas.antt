@@ -6,7 +6,7 @@ use Rattle.regex_lite_engine.specs.Backtrack.Capacity.{explores, FramesBelow}
 use Rattle.regex_lite_engine.specs.Backtrack.Searching.{SlotsBelow}
 use Rattle.regex_lite_engine.specs.Graph.Places.{Place}
 
--- what is left to do with the place that is taken up
+-- what is left to do with the place that is loaded
 abbrev pub loaded : Option (ℕ × ℕ) → List Frame → List Frame
 loaded None frames = frames
 loaded (Some next) frames = explore next.0 next.1 ∷ frames

@@ -70,7 +70,7 @@ module _ (table : List (Place ℕ)) (search : SearchFrom) where
     frames_hold = u.frames_hold;
   }
 
-  -- the start at a position is offered
+  -- the start at a position is added
   pub walk_started : (p at : ℕ) (pairs : Pairs) (held : Held) → from ≤ p → first ≤ p
       → IsOffset haystack p at → ((k : ℕ) → from ≤ k → k < p → IsDeadAt table haystack s k)
       → IsWalking table search pairs (record held { frames = [] })
@@ -140,7 +140,7 @@ module _ (table : List (Place ℕ)) (search : SearchFrom) where
       (u : IsWalking table search pairs (record held { frames = explore q at ∷ held.frames })) where
     open held use {row, frames}
 
-    -- what is offered first
+    -- what is pending first
     abbrev Top : ℕ → Type 0
     Top j =
         (w : List ℕ) × (rest : List (PendingNode Node))
@@ -274,7 +274,7 @@ module _ (table : List (Place ℕ)) (search : SearchFrom) where
                 (sym (entered_other r (offset haystack j) apart) ∙ was) in
                 (old.0, records.kept Node same_node u.recorded (q, p) w fresh (r, j) old.0 old.1)
 
-        -- what the place offers comes first of what is left
+        -- what the place adds comes first of what is left
         pub walk_entered : (held' : Held) → (IsTrue (is_end table haystack (q, p)) → ⊥)
             → ((w : List ℕ) (rest : List (PendingNode Node)) → WayHolds table haystack s i row
             (q, p) w → FramesHold row frames rest

@@ -68,7 +68,7 @@ module _ (table : List (Place ℕ)) (haystack : List ℕ) (walk : Backtracker) (
         left_enter table haystack utf8 walk.visited fit.all f q
         (place_of x) got at fit.below.2 fit.below.1 new
 
-    -- there is room for what entering the place keeps back
+    -- there is room for what entering the place defers
     pub enter_room : length walk.stack.frames + stack_bound_with (length walk.stack.row)
         (place_of x) ≤ walk.stack.room
     enter_room =

@@ -1,4 +1,4 @@
--- A search keeps back less at the places in the layout of a tree than there are.
+-- The stack bound of the places in the layout of a tree is below their number.
 use Rattle.regex_lite_engine.proofs.Common.{◌≡◌, ℕ, zero, suc, ◌+◌, ◌<◌, ◌≤◌, List, [], ◌∷◌}
 use Rattle.regex_lite_engine.proofs.Common.{replicate, refl, arith, mul-le-mul_left, length-map}
 use Rattle.regex_lite_engine.proofs.Common.{length-replicate, Tree, empty, character, class, look}

@@ -69,7 +69,7 @@ dead_in_pattern tree regular haystack i =
     (whole_part (written_out tree) name table (renumbered tree regular))
     (whole_number name table start_address start (starts_there tree regular)) regular i
 
--- none matches where the heads rule it out
+-- none matches where the prefix sets rule it out
 never_matches : (tree : Tree) (prefixes : PrefixSets) → ArePrefixSetsOfTree tree prefixes
     → (haystack : Text) (i : ℕ) → NeverBegins prefixes haystack i → (j : ℕ) → Matches haystack tree
     i j → ⊥

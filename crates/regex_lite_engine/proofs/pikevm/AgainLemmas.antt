@@ -1,4 +1,4 @@
--- A turn that holds again at a position that looks the same.
+-- A step that holds again at a position that looks the same.
 use Rattle.regex_lite_engine.proofs.Common.{◌≡◌, ℕ, ◌<◌, Bool, true, false, ◌⊎◌, List, [], ◌∷◌}
 use Rattle.regex_lite_engine.proofs.Common.{◌++◌, length, replicate, if◌then◌else◌, slice_get}
 use Rattle.regex_lite_engine.proofs.Common.{slice_index_or, Some, None, Option}

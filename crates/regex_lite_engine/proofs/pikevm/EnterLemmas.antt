@@ -243,7 +243,7 @@ module _ (table : List (Place ℕ)) (at : SearchAt) (state : State) (i : Reporte
         (sym is.bytes) (slots_set haystack state.row ms slot p has)))
         waits
 
-    -- the walk goes on from what the place offers, or it has a match
+    -- the walk goes on from the pending nodes that the place adds, or it has a match
     pub walk_enters : (x : code.Place) (e : State) (done : Bool) → place_with table q ≡ place_of x
         → Enters whole here i x n e done → Entered e done
     walk_enters (stored.Empty to) e done here_at (same, ed) =

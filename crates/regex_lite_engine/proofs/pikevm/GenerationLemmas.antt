@@ -1,4 +1,5 @@
--- What a round begins with: the room that it needs, and the threads and starts that are followed.
+-- What a generation begins with: the capacity that it needs, and the threads and starts that are
+-- followed.
 use Rattle.std.proofs.lemmas.Bool.{false≢true}
 use Rattle.regex_lite_engine.proofs.Common.{◌≡◌, ℕ, ◌+◌, ◌-◌, ◌^◌, ◌<◌, ◌≤◌, ◌⊎◌, List, [], ◌∷◌}
 use Rattle.regex_lite_engine.proofs.Common.{◌++◌, length, replicate, slice_index_or, Some, None}
@@ -90,7 +91,7 @@ pub start_begun : (starts : List Start) (at : ℕ → Reported) (w : ℕ) (best 
 start_begun starts at w None ts = inl (refl, (replicate w None, blank_row w, refl))
 start_begun starts at w (Some b) ts = inr ((λ e. not_there (sym e)), refl)
 
--- the ways of a round that begins
+-- the ways of a generation that begins
 pub begins_with : (m n : State) (starts : List Start) (reported : ℕ → Reported) (best : Best)
     → BeginsPosition m n
     → Begun starts reported best m.threads

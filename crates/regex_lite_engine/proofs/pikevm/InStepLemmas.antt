@@ -60,7 +60,7 @@ module _ (N : Type 0) (step : N → ℕ → Option N) (same : (x y : N) → (x �
         records.grown_extended N same recorded n w fresh step is_end IsStart best known.grown
         (known.now_grown n w here)
 
-    -- the record of n stands for the offer at n
+    -- the record of n stands for the pending node n
     settle_on : (rest' next' : List PendingNode)
         → ((m : N) (x : List ℕ) → In m x rest → In m x rest')
         → ((m : N) (x : List ℕ) → In m x next → In m x next') → (m : N) (x : List ℕ)

@@ -134,7 +134,7 @@ module _ (N : Type 0) (step : N → ℕ → Option N) (IsStart : List ℕ → N 
       by_from front n is (inl lt) = u.starts front n is lt
       by_from front n is (inr gone) = inr gone
 
-  -- with nothing offered, positions are passed over
+  -- with nothing pending, positions are passed over
   pub in_step_jump : {p p' from : ℕ} {recorded : Recorded} {best : Option (List ℕ)} → p ≤ p'
       → IsInStep p from recorded [] [] best → IsInStep p' from recorded [] [] best
   in_step_jump more u = record {

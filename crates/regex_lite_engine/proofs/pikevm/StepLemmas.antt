@@ -23,7 +23,7 @@ use Rattle.regex_lite_engine.proofs.pikevm.WentLemmas.{walk_is}
 abbrev pub taking_up : State → Thread → State
 taking_up m thread = record m { row = thread.2; frames = explore thread.0 ∷ [] }
 
--- nothing is left to do, and the first of the ways is taken up
+-- nothing is left to do, and the first of the ways is loaded
 thread_taken : (table : List (Place ℕ)) (at : SearchAt) (m : State) (thread : Thread)
     (ways : List Thread) (best : Best)
     → Between table at m (thread ∷ ways) best
@@ -72,7 +72,7 @@ stepped table at here m m' thread ways b done walks = λ is u.
     walk_framed table at (record m' { frames = [] }) thread.1 (if done then [] else ways)
     (if done then Some (thread.1, here.at, m'.row) else b) over no_start [] [] over.frames_hold
 
--- a thread was taken up: x is w but for the frames and the row
+-- a thread was loaded: x is w but for the frames and the row
 module _ (table : List (Place ℕ)) {S : Type 0} (w x : Walk S) (q : ℕ)
     (em : x.memory ≡ record w.memory { row = x.memory.row; frames = [] })
     (ec : x.steps ≡ w.steps) where
@@ -127,7 +127,7 @@ pub record HasFollowed {S : Type 0} (table : List (Place ℕ)) (whole : Bool) (h
   pub spent_entries : due_entries table walk ≤ due_entries table first
   pub empty : walk.memory.frames ≡ []
 
--- the next of them is taken up and followed too
+-- the next of them is loaded and followed too
 pub follows_on : {S : Type 0} {table : List (Place ℕ)} {whole : Bool} {here : Here}
     {ways : List Thread}
     {best : Best} {first w x y : Walk S} {before start : Reported} {k q : ℕ} {done : Bool}

@@ -27,7 +27,7 @@ pub starts_up_to : {table : List (Place ℕ)} {haystack : Text} {entries : List 
 starts_up_to high are =
     record { up_to = λ _. are; none_after = λ later. absurd (omega (arith, high, later)) }
 
--- what the starts of a position offer
+-- the pending nodes of a position's starts
 abbrev begun_pending : (p : ℕ) → List Start → List (PendingNode Node)
 begun_pending p [] = []
 begun_pending p (start ∷ starts) =
@@ -36,7 +36,7 @@ begun_pending p (start ∷ starts) =
 module _ (table : List (Place ℕ)) (at : SearchAt) where
   open at use {haystack, entries as s, first, last, p}
 
-  -- the offers of a position's starts
+  -- what is among the pending nodes of a position's starts
   begun_own_way : (from : ℕ) (starts : List Start) → AreFrom s from starts → first ≤ p → p ≤ last
       → (m : Node) (v : List ℕ) → pending_node.In Node m v (begun_pending p starts) →
       StartsOf s first last v m × (m.1 ≡ p) × ((rest : List ℕ) × (v ≡ p ∷ rest))

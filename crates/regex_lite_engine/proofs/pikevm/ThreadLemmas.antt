@@ -47,7 +47,7 @@ at_back (t ∷ ts) more (suc k) le =
     let same : k - length ts ≡ suc k - suc (length ts) = omega arith in
     at_back ts more k (omega (arith, le)) ∙ ap (thread_at more) same
 
--- the thread of a start is taken up
+-- the thread of a start is loaded
 pub begun_taken : (m n : State) (reported : ℕ → Reported) (starts : List Start) (k : ℕ)
     (start : Start) (kept : Reported) → length m.threads ≤ k
     → slice_get starts (k - length m.threads) ≡ Some start → kept ≡ reported start.number

@@ -46,7 +46,7 @@ module _ (table : List (Place ℕ)) (haystack : Text) (s : List ℕ) where
       marks : Option Node → List ℕ → Marks
       marks = marks_along haystack (place_with table)
 
-  -- threads after others hold their offers after those of the others
+  -- threads after others hold their pending nodes after those of the others
   pub held_append : (p : ℕ) (ts us : List Thread) (os ps : List (PendingNode Node))
       → ThreadsHold table haystack s p ts os → ThreadsHold table haystack s p us ps
       → ThreadsHold table haystack s p (ts ++ us) (os ++ ps)
@@ -56,7 +56,7 @@ module _ (table : List (Place ℕ)) (haystack : Text) (s : List ℕ) where
   held_append p (t ∷ ts) us (o ∷ os) ps (at, holds, rest) b =
       (at, holds, held_append p ts us os ps rest b)
 
-  -- without threads there are no offers
+  -- without threads there are no pending nodes
   pub none_held : (p : ℕ) (os : List (PendingNode Node)) → ThreadsHold table haystack s p [] os → os
       ≡ []
   none_held p [] a = refl
@@ -83,7 +83,7 @@ module _ (table : List (Place ℕ)) (at : SearchAt) (state : State) (i : Reporte
   abbrev width : Node → ℕ
   width = wide table haystack
 
-  -- what is left may be seen as other frames that hold the same offers
+  -- what is left may be seen as other frames that hold the same pending nodes
   pub walk_framed : (walking : IsWalking table at state i ways best) (j : Reported) (row : Row)
       (frames : List Job) → FramesHold table haystack s p j row frames walking.under
       → IsWalking table at (record state { row = row; frames = frames }) j ways best
@@ -110,7 +110,7 @@ module _ (table : List (Place ℕ)) (at : SearchAt) (state : State) (i : Reporte
         × WayReported table haystack s i state.row (q, p) w
         × FramesHold table haystack s p i state.row state.frames rest
 
-    -- the offer on top comes first of what is left
+    -- the pending node on top comes first of what is left
     taken : (w : List ℕ) (rest : List (PendingNode Node)) → walking.under ≡ ((q, p), w) ∷ rest
         → In_step walking.recorded (((q, p), w) ∷ (rest ++ walking.later)) walking.coming
         walking.way
@@ -181,7 +181,7 @@ module _ (table : List (Place ℕ)) (at : SearchAt) (state : State) (i : Reporte
               (sym (get_or-set_other state.entered q r true false d) ∙ e) in
               (r'.0, records.kept Node same_node walking.recorded (q, p) w fresh (r, p) r'.0 r'.1)
 
-      -- what the place offers to the way
+      -- the pending nodes that the place adds to the way
       abbrev pub listed : List ℕ → List (PendingNode Node)
       listed w = is_pending_by table haystack (place_with table q) p w (width (q, p)) 0
 

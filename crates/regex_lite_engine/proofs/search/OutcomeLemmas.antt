@@ -114,7 +114,7 @@ cost_reported tree graph is haystack start inside tried entered looked bounded =
     (position_at haystack start) tried entered looked)
     (length-map graph.places place_of ∙ is.places) bounded))
 
--- where a match is told one was found, and what holds then holds
+-- where a match is reported one was found, and what holds then holds
 pub reported_entered : (P : Type 0) (outcome : Option Outcome) (found : Option (ℕ × ℕ)) (row : Row)
     → match_reported outcome ≡ best_at found row → IfSome found (λ _. P) → IfSome outcome (λ _. P)
 reported_entered P None found row is holds = tt

@@ -78,7 +78,7 @@ module _ (N : Type 0) (step : N → ℕ → Option N) where
   pending n w zero k = []
   pending n w (suc c) k = one_pending_node (step n k) (w ++ k ∷ []) ++ pending n w c (suc k)
 
-  -- an offer among them is one of its arrows
+  -- a pending node among them is that of one of its arrows
   pub is_pending : (n : N) (w : List ℕ) (c k : ℕ) (m : N) (v : List ℕ) → In m v (pending n w c k) →
       (j : ℕ) × (k ≤ j) × (step n j ≡ Some m) × (v ≡ w ++ j ∷ [])
   is_pending n w zero k m v i = absurd i
@@ -157,7 +157,7 @@ module _ (N : Type 0) (step : N → ℕ → Option N) where
       by_first None h = h
       by_first (Some q) h = (later, h)
 
-  -- offers that come last after a list in order, each of which is preferred to them
+  -- pending nodes that come last after a list in order, each of which is preferred to them
   pub pending_after : (n : N) (w : List ℕ) (c : ℕ) (os : List PendingNode) → Ordered os
       → ((m : N) (v : List ℕ) → In m v os → IsPreferred v w) → Ordered (os ++ pending n w c 0)
   pending_after n w c [] o f =

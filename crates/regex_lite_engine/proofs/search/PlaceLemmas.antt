@@ -1,4 +1,4 @@
--- The places of a table, and what each offers, by its arrows.
+-- The places of a table, and the pending nodes that each adds, by its arrows.
 use Rattle.regex_lite_engine.proofs.Common.{◌≡◌, ℕ, zero, suc, ◌+◌, ◌≤◌, List, [], ◌∷◌, ◌++◌, map}
 use Rattle.regex_lite_engine.proofs.Common.{IsTrue, slice_get, Some, None, Option, sym, refl, ap}
 use Rattle.regex_lite_engine.proofs.Common.{◌∙◌, subst, arith, Text, Arrow, complete, with_arrows}
@@ -37,7 +37,7 @@ module _ (table : List (Place ℕ)) (h : Text) where
   one None w = []
   one (Some m) w = (m, w) ∷ []
 
-  -- what a place offers
+  -- the pending nodes that a place adds
   abbrev pub is_pending_by : Place ℕ → ℕ → List ℕ → ℕ → ℕ → List (PendingNode Node)
   is_pending_by x p w zero k = []
   is_pending_by x p w (suc c) k = one (step_from h x p k) (w ++ k ∷ []) ++ is_pending_by x p w c
@@ -78,7 +78,7 @@ module _ (table : List (Place ℕ)) (h : Text) (q p : ℕ) where
       closed : IsTrue (is_complete (with_arrows arrows)) → ⊥
       closed b = cc
 
-  -- where no arrow fits, nothing is offered
+  -- where no arrow fits, no node is added
   pub none_is_pending : ((k : ℕ) → numbered_step table h (q, p) k ≡ None) → (w : List ℕ) (c k : ℕ)
       → is_pending_by table h (place_with table q) p w c k ≡ []
   none_is_pending blocked w zero k = refl

@@ -1,7 +1,7 @@
--- A depth-first walk over a graph: the ways that it has recorded, and those that are pending (the
--- offers). The position of a start is put in front of each way from it. The starts are offered in
--- order, each when nothing is left of those before it. Below n and m are nodes, w and v the ways to
--- them, i the position of a start, and k the number of an arrow.
+-- A depth-first walk over a graph: the ways that it has recorded, and those that are pending. The
+-- position of a start is put in front of each way from it. The starts are added in order, each when
+-- nothing is left of those before it. Below n and m are nodes, w and v the ways to them, i the
+-- position of a start, and k the number of an arrow.
 use Rattle.std.specs.Prelude.{◌≡◌, ◌<◌, ◌≤◌, ◌⊎◌, ℕ, Bool, IsTrue}
 use Rattle.std.specs.Prelude.{List, [], ◌∷◌, ◌++◌, Option, Some, None}
 use Rattle.regex_lite_engine.specs.Search.Explored.{NotAfter, StartsAt, IsAnswered, IsGrown, IsDead}
@@ -10,7 +10,7 @@ use Rattle.regex_lite_engine.specs.Search.Pending.{PendingNode, In, Ordered, Sta
 module _ (N : Type 0) (step : N → ℕ → Option N) (start : ℕ → N) (is_end : N → Bool)
     (first last : ℕ) where
   -- No match is complete yet; the pending ways are `pending`, the next first; the starts below
-  -- `from` were offered, or lead to no end
+  -- `from` were added, or lead to no end
   pub record IsDepthFirst (from : ℕ) (recorded : N → Option (List ℕ))
       (pending : List (PendingNode N)) : Type 0 where
     -- each way is a start alone, or a recorded way and one arrow

@@ -22,8 +22,8 @@ module _ (table : List (Place ℕ)) (haystack : Text) (entry : ℕ) where
       × Leads Node (numbered_step table haystack) (entry, from) arrows node
       × HasSlots haystack row (marks_along haystack (place_with table) (Some (entry, from)) arrows)
 
-  -- The frames hold the offers, the first on top. The row of each is the row when its frame is
-  -- popped, and once all have been popped no slot is marked
+  -- The frames hold the pending nodes, the first on top. The row of each is the row when its frame
+  -- is popped, and once all have been popped no slot is marked
   abbrev pub FramesHold : (start : ℕ) → Row → List Frame → List (PendingNode Node) → Type 0
   FramesHold start row [] pending = (pending ≡ []) × IsBlank row
   FramesHold start row (explore place at ∷ frames) pending =
@@ -34,7 +34,7 @@ module _ (table : List (Place ℕ)) (haystack : Text) (entry : ℕ) where
       FramesHold start (slice_set row slot old) frames pending
 
 -- A search from position `first` on, for the pattern with this entry. The starts below position
--- `from` were offered, and the ways from the start at the offset i are followed
+-- `from` were added, and the ways from the start at the offset i are followed
 pub record SearchFrom : Type 0 where
   pub haystack : Text
   pub entry : ℕ
@@ -42,7 +42,7 @@ pub record SearchFrom : Type 0 where
   pub from : ℕ
   pub i : ℕ
 
--- the stack holds the offers of that start
+-- the stack holds the pending nodes of that start
 pub record IsWalking (table : List (Place ℕ)) (search : SearchFrom) (pairs : Pairs) (held : Held)
     : Type 0 where
   pub recorded : Node → Option (List ℕ)

@@ -1,6 +1,6 @@
 -- A walk over a graph from position to position: the ways that it has recorded, and those that are
--- pending (the offers). Nodes have positions, and a way has its start in front. Below n and m are
--- nodes, w and v the ways to them, k the number of an arrow, and b the best way.
+-- pending. Nodes have positions, and a way has its start in front. Below n and m are nodes, w and v
+-- the ways to them, k the number of an arrow, and b the best way.
 use Rattle.std.specs.Prelude.{◌≡◌, ◌≤◌, ◌⊎◌, ℕ, suc, Bool, IsTrue}
 use Rattle.std.specs.Prelude.{List, [], ◌∷◌, ◌++◌, Option, Some}
 use Rattle.regex_lite_engine.specs.Search.Preference.{IsPreferred}
@@ -10,7 +10,7 @@ use Rattle.regex_lite_engine.specs.Search.Pending.{PendingNode, In, Ordered, Sta
 module _ (N : Type 0) (step : N → ℕ → Option N) (IsStart : (front : List ℕ) → N → Type 0)
     (is_end : N → Bool) (position : N → ℕ) where
   -- The walk at position p: the pending ways there are `now`, and those at the next position so far
-  -- are `next`; the starts below `from` were offered, or lead to no end
+  -- are `next`; the starts below `from` were added, or lead to no end
   pub record IsInStep (p from : ℕ) (recorded : N → Option (List ℕ))
       (now next : List (PendingNode N)) (best : Option (List ℕ)) : Type 0 where
     -- each way is a start alone, or a recorded way and one arrow

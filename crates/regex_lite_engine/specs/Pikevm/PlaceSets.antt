@@ -6,8 +6,8 @@ use Rattle.regex_lite_engine.specs.Backtrack.Bits.{bits_of}
 use Rattle.regex_lite_engine.specs.declared.pikevm.place_set.Marks.{Marks}
 use Rattle.regex_lite_engine.specs.declared.pikevm.place_set.Marks.TheVariants as marks
 
--- the stamp of a place is that of the round (the generation), if `left` is the number of places
--- from it to the last one, including both
+-- the stamp of a place is that of the generation, if `left` is the number of places from it to the
+-- last one, including both
 abbrev pub is_stamped : (stamps : List ℕ) → (generation left : ℕ) → Bool
 is_stamped stamps generation left = slice_index stamps (left - 1) == generation
 
@@ -18,7 +18,7 @@ members (marks.Stamps kept) places =
     map (λ place. is_stamped kept.stamps.items kept.generation (places - place))
     (range_with_len 0 places)
 
--- no stamp is later than the round; a missing stamp counts as 0, so no round is 0
+-- no stamp is later than the generation; a missing stamp counts as 0, so no generation is 0
 pub record AreStamps (stamps : List ℕ) (generation : ℕ) : Type 0 where
   pub some : 0 < generation
   pub old : (k : ℕ) → slice_index stamps k ≤ generation

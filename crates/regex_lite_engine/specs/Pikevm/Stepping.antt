@@ -20,7 +20,7 @@ use Rattle.regex_lite_engine.specs.Pikevm.Capacity.{ThreadsBelow}
 abbrev pub best_of : BestState → Best
 best_of best = best_at best.found best.row
 
--- as long as there is no match, all starts below p were offered
+-- as long as there is no match, all starts below p were added
 abbrev pub FromIs : (p from : ℕ) → Best → Type 0
 FromIs p from None = from ≡ p
 FromIs p from (Some best) = Unit {0}

@@ -29,8 +29,8 @@ module _ (table : List (Place ℕ)) (haystack : Text) where
         × HasSlots haystack row
         (marks_along haystack (place_with table) (Some (entry, from)) arrows)
 
-    -- the frames hold the offers at position p, the first on top; the row of each is the row when
-    -- its frame is popped
+    -- the frames hold the pending nodes at position p, the first on top; the row of each is the row
+    -- when its frame is popped
     abbrev pub FramesHold : (p : ℕ) → (reported : Reported) → Row → List Job → List
         (PendingNode Node) → Type 0
     FramesHold p reported row [] pending = pending ≡ []
@@ -40,7 +40,7 @@ module _ (table : List (Place ℕ)) (haystack : Text) where
     FramesHold p reported row (restore slot old ∷ frames) pending =
         FramesHold p reported (slice_set row slot old) frames pending
 
-    -- the threads hold the offers at position p, one each
+    -- the threads hold the pending nodes at position p, one each
     abbrev pub ThreadsHold : (p : ℕ) → List Thread → List (PendingNode Node) → Type 0
     ThreadsHold p [] [] = Unit {0}
     ThreadsHold p (thread ∷ threads) (pending_node ∷ pending) =
@@ -65,8 +65,7 @@ module _ (table : List (Place ℕ)) (haystack : Text) where
           (is_wanted_end table haystack whole) (λ node. node.1)
 
 -- a search at position p: for the patterns with these entries, by ways that start from `first` to
--- `last`; if `whole`, for matches that end where the haystack ends; starts below `from` were
--- offered
+-- `last`; if `whole`, for matches that end where the haystack ends; starts below `from` were added
 pub record SearchAt : Type 0 where
   pub haystack : Text
   pub entries : List ℕ

@@ -49,7 +49,7 @@ with_match_start_kept None = None
 with_match_start_kept (Some (number, start, end, row)) =
     Some (record { at = Some start; number = Some number }, end, row)
 
--- the match with this origin, this end and this row
+-- the match with this start, this end and this row
 abbrev pub best_kept : Option (MatchStart × ℕ) → Row → Best
 best_kept None row = None
 best_kept (Some found) row =

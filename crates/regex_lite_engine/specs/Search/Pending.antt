@@ -1,4 +1,4 @@
--- Offers: the pending ways of a walk over a graph.
+-- The pending nodes of a walk over a graph, each with a way to it.
 use Rattle.std.specs.Prelude.{◌≡◌, ◌<◌, ◌⊎◌, ℕ, List, [], ◌∷◌}
 use Rattle.regex_lite_engine.specs.Search.Preference.{IsPreferred}
 

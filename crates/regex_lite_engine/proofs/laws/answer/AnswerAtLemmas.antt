@@ -6,7 +6,7 @@ use Rattle.regex_lite_engine.specs.Search.AnswerAt.{HasMatchAt, IsFoundAt, IsFou
 use Rattle.regex_lite_engine.specs.Search.AnswerOfList.{IsFoundInList}
 use Rattle.regex_lite_syntax.specs.Tree.Matches.{Matches}
 
--- what is found is told of a way
+-- what is found is that of a way
 pub way_of_found : (tree : Tree) (haystack : Text) (s : ℕ) (found : Found)
     → IsFound tree haystack s found → IsOfWay tree haystack found
 way_of_found tree haystack s found is = record {

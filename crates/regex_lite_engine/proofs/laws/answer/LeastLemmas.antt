@@ -89,7 +89,7 @@ scan (suc left) k P few one =
       | inr gone ↦ inr (λ ks q. gone ks (strengthen none ks q))
     ]
 
--- the lists are shorter than a number, and what may come after a beginning is less than a number
+-- the lists are shorter than a number, and what may come after a prefix is less than a number
 pub least : (long : ℕ) (P : List ℕ → Type 0) → ((ks : List ℕ) → P ks ⊎ (P ks → ⊥))
     → ((ks : List ℕ) → P ks → length ks < long)
     → ((us : List ℕ) → (d : ℕ) × ((k : ℕ) (ks : List ℕ) → P (us ++ k ∷ ks) → k < d))

@@ -3,7 +3,7 @@ use Rattle.regex_lite_engine.proofs.Common.{◌≡◌, ℕ, ◌⊎◌, List, [],
 use Rattle.regex_lite_engine.proofs.Common.{inl, inr, append-nil}
 use Rattle.regex_lite_syntax.proofs.ListLemmas.{same_head, same_tail}
 
--- what follows the same beginning is the same
+-- what follows the same prefix is the same
 pub same_rest : (a b c : List ℕ) → a ++ b ≡ a ++ c → b ≡ c
 same_rest [] b c e = e
 same_rest (x ∷ a) b c e = same_rest a b c (same_tail e)

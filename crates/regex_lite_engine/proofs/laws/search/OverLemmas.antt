@@ -31,7 +31,7 @@ module _ {A : Type 0} (haystack : Text) (place : A → Place A) where
   no_arrow_on complete i l next over s = absurd cc
   no_arrow_on (with_arrows arrows) i l next over s = absurd cc
 
-  -- of two walks to where a match is complete, none is a beginning of the other
+  -- of two walks to where a match is complete, none is a prefix of the other
   pub before_preferred : (a b : List ℕ) (n x y : A × ℕ) → Before a b
       → Leads (A × ℕ) (step haystack place) n a x → IsTrue (is_complete (place x.0))
       → Leads (A × ℕ) (step haystack place) n b y → IsPreferred a b

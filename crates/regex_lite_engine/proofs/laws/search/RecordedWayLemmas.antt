@@ -76,7 +76,7 @@ module _ (N : Type 0) (step : N → ℕ → Option N) (is_end : N → Bool)
       let moved = subst (λ m. Leads N step m t.arrows n) same.1 t.along in
       (n, r ∙ ap Some e, subst (λ ks. Leads N step start ks n) rest moved)
 
-  -- a beginning of a recorded way is recorded where it leads
+  -- a prefix of a recorded way is recorded where it leads
   abbrev HasThreadStarts : List ℕ → Type 0
   HasThreadStarts way =
       (front us vs : List ℕ) (start : N) → IsStart front start → way ≡ front ++ (us ++ vs)

@@ -18,7 +18,7 @@ NotAfter-trans a b c (inl p) q = subst (λ x. NotAfter x c) (sym p) q
 NotAfter-trans a b c (inr p) (inl q) = inr (subst (λ x. Before a x) q p)
 NotAfter-trans a b c (inr p) (inr q) = inr (Before-trans a b c p q)
 
--- a beginning comes before what continues it
+-- a prefix comes before what continues it
 pub NotAfter-append : (a b : List ℕ) → NotAfter a (a ++ b)
 NotAfter-append [] [] = inl refl
 NotAfter-append [] (y ∷ b) = inr tt

@@ -34,7 +34,7 @@ reading_adds_up (tree ∷ trees) base =
     let sum = sum_by-cons reading_places tree trees in
     omega (arith, both, sum, reading_pattern tree base, reading_adds_up trees later)
 
--- in each pattern less is kept back than there are places
+-- the stack bound of each pattern is below the number of its places
 stack_bound_few : (trees : List Tree) → AreRegularPatterns trees → (base : ℕ)
     → stack_bound_of (patterns_table trees base) + length trees ≤ places_of_all trees
 stack_bound_few [] regular base = omega arith

@@ -1,4 +1,4 @@
--- What is kept back at places, summed up from the first on.
+-- The stack bound of places, summed up from the first on.
 use Rattle.regex_lite_engine.proofs.Common.{◌≡◌, ℕ, suc, ◌+◌, ◌-◌, ◌<◌, ◌≤◌, List, [], ◌∷◌, map}
 use Rattle.regex_lite_engine.proofs.Common.{length, get_or, drop, Some, None, sum_by, Option, refl}
 use Rattle.regex_lite_engine.proofs.Common.{ap, ◌∙◌, arith, drop-cons, length-map, sum_by-cons}
@@ -25,7 +25,7 @@ few_without_slots (place ∷ table) =
     let b = sum_by-cons stack_bound place table in
     omega (arith, a, b, few_at place, few_without_slots table)
 
--- all of these arrows but one are kept back
+-- the stack bound of branches: all of these arrows but one
 pub kept_at_branches : (entries : List ℕ)
     → length entries - 1 ≡ stack_bound (with_arrows (map (λ q. go q) entries))
 kept_at_branches [] = refl

@@ -2,7 +2,7 @@ use Rattle.regex_lite_engine.proofs.Common.{◌≡◌, ◌+◌, map, drop, sum_b
 use Rattle.regex_lite_engine.proofs.Common.{stack_bound_with, place_of}
 use Rattle.regex_lite_engine.proofs.nfa.stack_bound.StackBound.of.Given as goal
 
--- with what is kept back at the places that are left it is that of all
+-- with the bound of the places that are left it is that of all
 abbrev pub invariant-loop-place : goal.invariant-loop-place
 invariant-loop-place l =
     (l.kept.without_slots + sum_by (stack_bound_with 0) (map place_of (drop l.place-index l.places))

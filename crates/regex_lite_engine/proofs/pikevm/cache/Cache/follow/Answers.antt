@@ -23,7 +23,7 @@ has_row : (best : Best) (i : Reported) (at : ℕ) (row row' : Row) → best ≡ 
     ≡ row' → best ≡ Some (i, at, row')
 has_row best i at row row' is same = cc
 
--- the k-th of the ways is taken up
+-- the k-th of the ways is loaded
 module _ (starts : List Start) (reported : ℕ → Reported) (best : Best) (m w : State) (k : ℕ)
     (kept : KeepsPosition m w) where
   abbrev ways : List Thread

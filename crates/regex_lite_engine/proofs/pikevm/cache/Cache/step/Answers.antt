@@ -17,7 +17,7 @@ use Rattle.regex_lite_engine.proofs.pikevm.SteppingLemmas.{starts_up_to, stepped
 use Rattle.regex_lite_engine.proofs.pikevm.SteppingLemmas.{stepped_within}
 use Rattle.regex_lite_engine.proofs.pikevm.cache.Cache.step.Goals as goal
 
--- a search at the position, before any start is offered there
+-- a search at the position, before any start is added there
 abbrev search_at : Text → (entries : List ℕ) → (whole : Bool) → (first last p : ℕ) → SearchAt
 search_at haystack entries whole first last p = record {
   haystack = haystack;

@@ -8,7 +8,7 @@ use Rattle.regex_lite_engine.specs.Search.Filters.{facts_of}
 use Rattle.regex_lite_engine.specs.Search.Starts.{AnswerSearches, DoWordsAnswer}
 use Rattle.regex_lite_engine.proofs.search.one_pattern.OnePattern.whole_words.Goals as goal
 
--- words that are told are those of the facts
+-- words that are reported are those of the facts
 reported_answer : {X : Type 0} (words : X → List (List Letter)) (table : List (Place ℕ)) (start : ℕ)
     (facts : StartFacts) → DoWordsAnswer table start facts → (reported : Option X)
     → IfSome reported (λ x. facts.words ≡ Some (words x)) → IfSome reported
