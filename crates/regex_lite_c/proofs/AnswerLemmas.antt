@@ -49,8 +49,8 @@ yes_or_no_room buffer count answer written no_room = elim (cases_lt buffer count
       )
 ]
 
--- what a search for groups returns where these are found, of which this is told, and are written if
--- there is room for them
+-- what a search for groups returns where these are found, of which this is reported, and are
+-- written if there is room for them
 pub groups_found : {T : Type 0} (AreFirst : T → Groups → Type 0) (are_none : Type 0)
     (bytes : List ℕ) (start : ℕ) (old new : List Span) (old_reported reported : T) (answer : ℕ)
     (groups : Groups) → IsUtf8 bytes → IsCharBoundary bytes start → AreFirst reported groups

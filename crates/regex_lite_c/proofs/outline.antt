@@ -1,2 +1,2 @@
--- lemmas that the proofs of what is told of a pattern share
+-- lemmas that the proofs of what is returned of a pattern share
 pub mod OutlineLemmas

@@ -38,12 +38,12 @@ pub record RefusesText (bytes : List ℕ) (start answer : ℕ) : Type 0 where
   pub not_text : (answer ≡ NOT_TEXT) ↔ (IsUtf8 bytes → ⊥)
   pub bad_offset : (answer ≡ BAD_OFFSET) ↔ (IsUtf8 bytes × (IsCharBoundary bytes start → ⊥))
 
--- the answer for a text that can be searched: yes, no, memory ran out, or the room is too small
+-- the answer for a text that can be searched: yes, no, memory ran out, or the buffer is too small
 abbrev pub IsOfFound : (answer : ℕ) → Type 0
 IsOfFound answer = (answer ≤ YES) ⊎ ((answer ≡ OUT_OF_MEMORY) ⊎ (answer ≡ NO_ROOM))
 
--- a call that writes what it finds in a text to the caller's room has failed: the text or the
--- offset is rejected, memory runs out, or the room is too small
+-- a call that writes what it finds in a text to the caller's buffer has failed: the text or the
+-- offset is rejected, memory runs out, or the buffer is too small
 abbrev pub IsFailure : (answer : ℕ) → Type 0
 IsFailure answer =
     (answer ≡ NOT_TEXT) ⊎ ((answer ≡ BAD_OFFSET) ⊎ ((answer ≡ OUT_OF_MEMORY)

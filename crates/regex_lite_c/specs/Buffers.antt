@@ -1,11 +1,11 @@
--- What is written to a caller's room, an output buffer.
+-- What is written to a caller's buffer.
 use Rattle.std.specs.Prelude.{◌≡◌, ◌<◌, ◌≤◌, ◌++◌, ℕ, List, MatchOption, drop, length}
 use Rattle.std.specs.Prelude.{slice_get}
 use Rattle.regex_lite.specs.Expression.{Expression}
 use Rattle.regex_lite_c.specs.declared.answer.TheConstants.{NO, YES, NO_ROOM}
 
--- a text was written to the front of the room, and nothing after it; or the room is too small, and
--- is unchanged; the text's length is written either way
+-- a text was written to the front of the buffer, and nothing after it; or the buffer is too small
+-- and unchanged; the text's length is written either way
 pub record IsWritten (text old new : List ℕ) (len answer : ℕ) : Type 0 where
   pub need : len ≡ length text
   pub written : length text ≤ length old → (answer ≡ YES) × (new ≡ text ++ drop (length text) old)

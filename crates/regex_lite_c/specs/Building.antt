@@ -7,7 +7,7 @@ use Rattle.regex_lite_c.specs.Answers.{number_of}
 use Rattle.regex_lite_c.specs.Buffers.{IsWritten}
 use Rattle.regex_lite_c.specs.declared.answer.TheConstants.{YES, NOT_TEXT, OUT_OF_MEMORY}
 
--- a message was written to the room for it, if that is large enough, and its length was reported
+-- a message was written to the buffer for it, if that is large enough, and its length was reported
 abbrev pub IsMessage : (text old new : List ℕ) → (len : ℕ) → Type 0
 IsMessage text old new len = (answer : ℕ) × IsWritten text old new len answer
 
@@ -23,7 +23,7 @@ abbrev pub IsRefusedBy : Settings → (answer : ℕ) → (old new : List ℕ) �
 IsRefusedBy settings = IsRefusedFor (IsDue settings)
 
 -- the answer when a regex is built under these settings, whose pattern may be any bytes; what is
--- held then, and the room for a message before and after
+-- held then, and the buffer for a message before and after
 pub record IsBuildAnswer (settings : Settings) (answer : ℕ) (held : Option Expression)
     (old new : List ℕ) (len : ℕ) : Type 0 where
   pub built : answer ≡ YES → held ≡ Some (expression_of settings)

@@ -37,9 +37,9 @@ pieces_of ended spans bytes is_over =
 abbrev pub spans_in : (haystack : List ℕ) → List Found → List (ℕ × ℕ)
 spans_in haystack list = map (found_span (chars haystack)) list
 
--- the pieces before the first of the matches ahead were written to the front of the room, as many
--- as there is room for, and the last piece too if all matches came before the room was full; the
--- cut continues at the end of the last of these matches
+-- the pieces before the first of the matches ahead were written to the front of the buffer, as many
+-- as fit, and the last piece too if all matches came before the buffer was full; the cut continues
+-- at the end of the last of these matches
 pub record ArePiecesListed (ahead : Ahead) (ended : Option ℕ) (cut : Cut) (old new : List Span)
     (count : ℕ) : Type 0 where
   pub list : List Found

@@ -23,7 +23,7 @@ AreFirstOfEach re bytes at (len ∷ lens) (one ∷ reported) =
     TellsSpan re (slice_range bytes at (at + len)) 0 one
     × AreFirstOfEach re bytes (at + len) lens reported
 
--- these spans were written to the front of the room
+-- these spans were written to the front of the buffer
 abbrev pub AreFoundEach : Expression → (bytes lens : List ℕ) → (old new : List Span) → Type 0
 AreFoundEach re bytes lens old new =
     (reported : List (Option (ℕ × ℕ))) × AreFirstOfEach re bytes 0 lens reported

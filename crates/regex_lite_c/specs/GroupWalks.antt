@@ -15,8 +15,8 @@ use Rattle.regex_lite_c.specs.declared.list.types.ListGroups.{ListGroups}
 use Rattle.regex_lite_c.specs.declared.types.Span.{Span}
 use Rattle.regex_lite_c.specs.declared.types.MatchWalk.{MatchWalk}
 
--- what a walk over groups writes to: its position, the room for what is written of each match, and
--- the room for spans
+-- what a walk over groups writes to: its position, the buffer for what is written of each match,
+-- and the buffer for spans
 pub record GroupBuffer (T : Type 0) : Type 0 where
   pub walk : MatchWalk
   pub reported : List T
@@ -45,7 +45,8 @@ module _ {S X T : Type 0} (kind : Kind S X T) where
   AreItsGroups ahead own = kind.AreGroups ahead.sought ahead.haystack own.0 own.1
 
   -- the groups of this many matches, the first of those ahead, were written to the front of the
-  -- room, with what is written of each match, and the walk continues at the end of the last of them
+  -- buffer, with what is written of each match, and the walk continues at the end of the last of
+  -- them
   pub record AreGroupsListed (ahead : AheadOf S) (old new : GroupBuffer T) (count : ℕ)
       : Type 0 where
     pub list : List (kind.Answer × Groups)
@@ -60,7 +61,7 @@ module _ {S X T : Type 0} (kind : Kind S X T) where
     pub ends : list ≡ front ++ (last ∷ [])
     pub end : ended_of new.walk ≡ Some (whole_span last.1).1
 
-  -- the room for what is written of each match is full after this many
+  -- the buffer for what is written of each match is full after this many
   abbrev pub IsFull : (reported : List T) → (count : ℕ) → Type 0
   IsFull reported count = (kind.is_reported ≡ true) × (length reported ≡ count)
 
@@ -80,7 +81,7 @@ module _ {S X T : Type 0} (kind : Kind S X T) where
     pub listed : AreGroupsListed ahead old new count
     pub no_more : NoMoreFit ahead old listed.list
 
-  -- there is a next match, and the room is too small for its groups; their number is written if
+  -- there is a next match, and the buffer is too small for its groups; their number is written if
   -- something is written of each match
   abbrev pub IsWithoutBuffer : AheadOf S → (old : GroupBuffer T) → (number : ℕ) → Type 0
   IsWithoutBuffer ahead old number =

@@ -1,5 +1,5 @@
 -- What a caller in C holds, the numbers and spans that it receives, and what is written to its
--- room.
+-- buffers.
 pub mod Searchers
 pub mod Handles
 pub mod Options

@@ -84,7 +84,7 @@ IsListRefusedBy all answer reported old new =
     × IsMessage (text_of error) old new reported.message_len
 
 -- the answer when a list of these patterns is built, each under its own options; what is held and
--- written then, and the room for a message before and after
+-- written then, and the buffer for a message before and after
 pub record IsListBuildAnswer (bytes : List ℕ) (patterns : List ListPattern) (answer : ℕ)
     (held : Option (List Expression)) (reported : ListRefusal) (old new : List ℕ) : Type 0 where
   pub built : answer ≡ YES → held ≡ Some (map expression_of (settings_of_all bytes patterns))

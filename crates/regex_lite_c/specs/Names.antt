@@ -5,7 +5,7 @@ use Rattle.regex_lite.specs.Groups.{index_of}
 use Rattle.regex_lite_c.specs.Buffers.{IsWritten}
 use Rattle.regex_lite_c.specs.declared.answer.TheConstants.{NO, YES, NO_GROUP}
 
--- the name of a group was written to the room; or it has none, or doesn't exist, and nothing
+-- the name of a group was written to the buffer; or it has none, or doesn't exist, and nothing
 -- changes
 abbrev pub IsNameReported : Option (Option (List ℕ)) → (old new : List ℕ) → (old_len len answer : ℕ)
     → Type 0

@@ -75,7 +75,7 @@ written_part part = written_at part.depth part.kind
 abbrev pub AreThisMany : Settings → (count : ℕ) → List Part → Type 0
 AreThisMany settings count own = AreParts settings own × (count ≡ length own)
 
--- the answer for the outline of a pattern, which may be any bytes, under these settings; the room
+-- the answer for the outline of a pattern, which may be any bytes, under these settings; the buffer
 -- for the parts and that for a message before and after, and what is written
 pub record IsOutlineAnswer (settings : Settings) (answer : ℕ) (old_parts parts : List WrittenPart)
     (old new : List ℕ) (reported : Outlined) : Type 0 where

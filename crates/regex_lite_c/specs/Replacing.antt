@@ -27,8 +27,8 @@ IsReplaced re text template replacing new count =
     (IsReplacedByTemplate template a new)
     × AreSoManyAhead a count
 
--- the answer when a new text that has this property is written to the room: it was written if the
--- room suffices; or the call failed, and nothing changes
+-- the answer when a new text that has this property is written to the buffer: it was written if the
+-- buffer suffices; or the call failed, and nothing changes
 pub record IsTextAnswer (AreTexts : Type 0) (Says : List ℕ → Type 0) (old new : List ℕ)
     (old_len len answer : ℕ) : Type 0 where
   pub not_text : (answer ≡ NOT_TEXT) ↔ (AreTexts → ⊥)

@@ -23,15 +23,15 @@ FindsSpan re haystack start span =
     (reported : ℕ × ℕ) × TellsSpan re haystack start (Some reported)
     × (span ≡ span_of (Some reported))
 
--- these values were written to the front of the room, each as what stands for it, and nothing after
--- them
+-- these values were written to the front of the buffer, each as what stands for it, and nothing
+-- after them
 pub record AreWrittenAs {X Y : Type 0} (stands_for : Y → X) (reported : List Y) (old new : List X)
     : Type 0 where
   pub each : (k : ℕ) → k < length reported
       → slice_get new k ≡ option_map stands_for (slice_get reported k)
   pub rest : (k : ℕ) → length reported ≤ k → slice_get new k ≡ slice_get old k
 
--- these spans were written to the front of the room, and nothing after them
+-- these spans were written to the front of the buffer, and nothing after them
 abbrev pub AreWritten : (reported : List (Option (ℕ × ℕ))) → (old new : List Span) → Type 0
 AreWritten reported old new = AreWrittenAs span_of reported old new
 

@@ -16,7 +16,7 @@ use Rattle.regex_lite_c.specs.declared.types.MatchWalk.{MatchWalk}
 abbrev pub ended_of : MatchWalk → Option ℕ
 ended_of walk = cond walk.is_begun (Some walk.end) None
 
--- what a walk writes to: its position, and the caller's room
+-- what a walk writes to: its position, and the caller's buffer
 pub record WalkBuffer (X : Type 0) : Type 0 where
   pub walk : MatchWalk
   pub buffer : List X
@@ -24,8 +24,8 @@ pub record WalkBuffer (X : Type 0) : Type 0 where
 abbrev pub walk_buffer : {X : Type 0} → MatchWalk → List X → WalkBuffer X
 walk_buffer walk buffer = record { walk = walk; buffer = buffer }
 
--- these are the first of the matches ahead, as many as there is room for, or all if they are fewer,
--- and they were written to the front of the room
+-- these are the first of the matches ahead, as many as fit, or all if they are fewer, and they were
+-- written to the front of the buffer
 pub record AreListed {S X T : Type 0} (kind : Kind S X T) (ahead : AheadOf S)
     (old new : List X) (count : ℕ) : Type 0 where
   pub list : List kind.Answer

@@ -8,7 +8,7 @@ use crate::answer::text_of_answer;
 use crate::buffer;
 use crate::version::VERSION;
 
-/// Writes the version of the library to the room: 1. Its length is written either way.
+/// Writes the version of the library to the buffer: 1. Its length is written either way.
 #[unsafe(no_mangle)]
 pub extern "C" fn regex_lite_version(buffer: &mut [u8], len: &mut usize) -> u32
     ensures { IsWritten VERSION.now buffer.old buffer.new len.new result }
@@ -16,7 +16,7 @@ pub extern "C" fn regex_lite_version(buffer: &mut [u8], len: &mut usize) -> u32
     buffer::write(VERSION.as_bytes(), buffer, len)
 }
 
-/// Writes the text of an answer to the room: 1. A number that isn't an answer has a text too. The
+/// Writes the text of an answer to the buffer: 1. A number that isn't an answer has a text too. The
 /// text's length is written either way.
 #[unsafe(no_mangle)]
 pub extern "C" fn regex_lite_strerror(answer: u32, buffer: &mut [u8], len: &mut usize) -> u32

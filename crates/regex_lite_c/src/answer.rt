@@ -21,7 +21,7 @@ pub(crate) const NOT_TEXT: u32 = 3;
 /// The offset is above the text's length or isn't on a character boundary.
 pub(crate) const BAD_OFFSET: u32 = 4;
 
-/// The room is too small for the first thing to write, and is unchanged.
+/// The buffer is too small for the first thing to write, and is unchanged.
 pub(crate) const NO_ROOM: u32 = 5;
 
 /// Memory ran out.

@@ -1,4 +1,4 @@
-//! The caller's room (output buffer) for bytes.
+//! The caller's buffers for bytes.
 ghost use Rattle.std.specs.Prelude.{◌≡◌, IfSome, MatchResult, None};
 ghost use Rattle.std.specs.Fn.{FnOnceReturnsAt};
 ghost use Rattle.regex_lite_c.specs.Buffers.{IsWritten};
@@ -7,7 +7,7 @@ use crate::answer::{NO_ROOM, NOTHING_HELD, YES};
 use crate::handle::Holds;
 use std::alloc::Global;
 
-/// Writes a text to the room, or nothing if that is too small, and writes the text's length.
+/// Writes a text to the buffer, or nothing if that is too small, and writes the text's length.
 pub(crate) fn write(text: &[u8], buffer: &mut [u8], len: &mut usize) -> u32
     ensures { IsWritten text.now buffer.old buffer.new len.new result }
 {

@@ -15,7 +15,7 @@ use std::alloc::Global;
 /// Builds the regex of a pattern: 1, and the handle holds it. Otherwise the reason, and the handle
 /// holds nothing.
 ///
-/// What was held before is freed. The text of an error is written to the room for a message, if
+/// What was held before is freed. The text of an error is written to the buffer for a message, if
 /// that is large enough. Its length is written either way, and is 0 if there is no text.
 #[unsafe(no_mangle)]
 pub extern "C" fn regex_lite_new(
@@ -112,7 +112,7 @@ fn set_limits(builder: &mut RegexBuilder, options: &Options)
     builder.size_limit(options.size_limit);
 }
 
-/// Writes the error's text to the room, if that is large enough, and writes its length.
+/// Writes the error's text to the buffer, if that is large enough, and writes its length.
 pub(crate) fn write_message(error: &Error, message: &mut [u8], len: &mut usize)
     ensures { IsMessage (text_of error.now) message.old message.new len.new }
 {

@@ -15,13 +15,13 @@ use crate::types::{MatchWalk, Span};
 use crate::written::Written;
 use std::alloc::Global;
 
-/// The groups of the next matches in a text, as many as there is room for: 1 with the spans of the
-/// groups of each match, beginning with the whole match, one match after another, or 0 if none is
-/// left. The number of these matches is written too, and the walk moves past the last of them.
+/// The groups of the next matches in a text, as many as fit: 1 with the spans of the groups of each
+/// match, beginning with the whole match, one match after another, or 0 if none is left. The number
+/// of these matches is written too, and the walk moves past the last of them.
 ///
 /// They are the matches of `regex_lite_find_all`. 1 means that no further match would have fitted:
-/// none is left, or the next has more groups than the room has spans left. If memory runs out, the
-/// number is that of the matches that were written before, and the walk moves past them.
+/// none is left, or the next has more groups than the buffer has spans left. If memory runs out,
+/// the number is that of the matches that were written before, and the walk moves past them.
 #[unsafe(no_mangle)]
 pub extern "C" fn regex_lite_captures_all(
     alloc: Global,
@@ -102,7 +102,7 @@ pub(crate) fn fill_groups<'h, M: GroupsAhead<'h>>(
     }
 }
 
-/// Whether the room for what is written of each match besides spans is full after this many
+/// Whether the buffer for what is written of each match besides spans is full after this many
 /// matches.
 fn is_full<P: Written>(reported: &[P::Reported], count: usize) -> bool
     ensures { IsTrue result ↔ IsFull P.kind reported.now count }

@@ -104,7 +104,7 @@ impl GroupSpans for CaptureLocations {
     }
 }
 
-/// Writes these groups, or nothing if there is too little room.
+/// Writes these groups, or nothing if they don't fit.
 pub(crate) fn write_groups<G: GroupSpans>(groups: &G, spans: &mut [Span]) -> u32
     ensures written { length (G.spans groups.now) ≤ length spans.old
         → (result ≡ YES) × AreWritten (G.spans groups.now) spans.old spans.new }

@@ -1,4 +1,4 @@
-//! The outline of a pattern, written to the caller's room.
+//! The outline of a pattern, written to the caller's buffer.
 ghost use Rattle.std.specs.Prelude.{◌≡◌, ◌<◌, ◌≤◌, IfOk, IfErr, length};
 ghost use Rattle.regex_lite_syntax.specs.Errors.{out_of_memory};
 ghost use Rattle.regex_lite.specs.Outlines.{AreParts, IsDueOnReading, IsReadable};
@@ -17,7 +17,7 @@ use regex_lite::{Error, Part};
 use std::alloc::Global;
 
 /// Writes the parts of a pattern in order: 1, otherwise the reason. The number of parts is written
-/// even if there is too little room for them; it is 0 if the pattern is rejected.
+/// even if they don't fit; it is 0 if the pattern is rejected.
 ///
 /// A pattern is rejected if `regex_lite_new` rejects it, with the same message, but never for the
 /// size of its NFA: the size limit doesn't matter.
@@ -60,7 +60,7 @@ fn parts_of(alloc: Global, pattern: &str, options: &Options) -> Result<Vec<Part>
     builder_of(alloc, pattern, options)?.outline()
 }
 
-/// Writes the parts, or nothing if there is too little room, and writes their number.
+/// Writes the parts, or nothing if they don't fit, and writes their number.
 fn write_parts(found: &[Part], parts: &mut [WrittenPart], count: &mut usize) -> u32
     ensures count { count.new ≡ length found.now }
     ensures written { count.new ≤ length parts.old → (result ≡ YES)

@@ -16,7 +16,7 @@ use crate::handle::{Handle, Holds, ask};
 use regex_lite::{CaptureNames, Regex};
 use std::alloc::Global;
 
-/// Writes the pattern to the room: 1.
+/// Writes the pattern to the buffer: 1.
 #[unsafe(no_mangle)]
 pub extern "C" fn regex_lite_pattern(
     alloc: Global,
@@ -91,7 +91,7 @@ pub extern "C" fn regex_lite_arrows(alloc: Global, handle: &mut Handle) -> usize
     ask(alloc, handle, 0, |regex| regex.arrows())
 }
 
-/// Writes the name of the group with this index to the room: 1, or 0 if the group has no name.
+/// Writes the name of the group with this index to the buffer: 1, or 0 if the group has no name.
 #[unsafe(no_mangle)]
 pub extern "C" fn regex_lite_group_name(
     alloc: Global,

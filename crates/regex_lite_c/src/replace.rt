@@ -12,7 +12,7 @@ use regex_lite::{Error, NoExpand, Regex};
 use std::alloc::Global;
 use std::borrow::CowStr;
 
-/// Writes the text with its matches replaced to the room: 1. The new text's length and the number
+/// Writes the text with its matches replaced to the buffer: 1. The new text's length and the number
 /// of matches that were replaced are written to `replacing` either way.
 #[unsafe(no_mangle)]
 pub extern "C" fn regex_lite_replace(
@@ -93,7 +93,7 @@ fn replaced<'h>(
     }
 }
 
-/// Writes a pattern that matches exactly this text to the room: 1.
+/// Writes a pattern that matches exactly this text to the buffer: 1.
 #[unsafe(no_mangle)]
 pub extern "C" fn regex_lite_escape(
     alloc: Global,

@@ -11,9 +11,8 @@ use crate::types::{Cut, MatchWalk, Span};
 use regex_lite::{Matches, Regex};
 use std::alloc::Global;
 
-/// The next pieces of a text, as many as there is room for: 1 with their spans written, or 0 if
-/// none is left. The number of these pieces is written too, and the cut moves past the last of
-/// them.
+/// The next pieces of a text, as many as fit: 1 with their spans written, or 0 if none is left. The
+/// number of these pieces is written too, and the cut moves past the last of them.
 ///
 /// They are the texts before the first match of `regex_lite_find_all`, between two consecutive
 /// matches, and after the last match, so there is one more piece than matches. A piece may be

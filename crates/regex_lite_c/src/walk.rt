@@ -11,9 +11,8 @@ use crate::types::{MatchWalk, Span};
 use crate::written::Written;
 use std::alloc::Global;
 
-/// The next matches of a text, as many as there is room for: 1 with their spans written, or 0 if
-/// none is left. The number of these matches is written too, and the walk moves past the last of
-/// them.
+/// The next matches of a text, as many as fit: 1 with their spans written, or 0 if none is left.
+/// The number of these matches is written too, and the walk moves past the last of them.
 ///
 /// They are the matches in the text from left to right, and no two overlap. The search for the next
 /// match starts where the last one ended; if it finds an empty match right there, it starts one

@@ -12,7 +12,7 @@ use Rattle.regex_lite_c.specs.ListSpans.{list_span_of}
 use Rattle.regex_lite_c.specs.Whole.{FindsWholeListSpan, FindsWholeSpan}
 use Rattle.regex_lite_c.specs.declared.list.types.ListSpan.{ListSpan}
 
--- with the match its span is told
+-- with the match its span is reported
 tells_span : (whole : Bool) (re : Expression) (haystack : List ℕ) (start : ℕ) (found : Match)
     → TellsAnswerAt whole (λ tree. IsMatchOf haystack) re haystack start (Some found)
     → TellsAnswerAt whole (IsSpanOf haystack) re haystack start (Some (span_of_match found))

@@ -17,7 +17,7 @@ use Rattle.regex_lite_c.proofs.walk.WalkLemmas.{AreFirstOf, lists_all, lists_to_
 
 module _ {S X T : Type 0} {kind : Kind S X T} {start now : Stage S T}
     (so : AreSoFar kind start now) where
-  -- the rooms are as long as they were
+  -- the buffers are as long as they were
   abbrev pub AreAsLong : Type 0
   AreAsLong =
       (length now.to.reported ≡ length start.to.reported)

@@ -31,7 +31,7 @@ length_before : (ended : Option ℕ) (spans : List (ℕ × ℕ))
 length_before ended [] = refl
 length_before ended (own ∷ spans) = ap suc (length_before (Some own.1) spans)
 
--- where a cut stands: what is ahead, where the caller goes on, and what the room holds
+-- where a cut stands: what is ahead, where the caller goes on, and what the buffer holds
 pub record Stage : Type 0 where
   pub ahead : Ahead
   pub walk : MatchWalk
@@ -137,7 +137,7 @@ last_piece start now k piece so below same over is =
       goes_on = so.walked;
     }
 
--- the room is full
+-- the buffer is full
 pub full_of_pieces : (start : Stage) (cut : Cut) (now : Ahead) (new : List Span) (k : ℕ)
     → AreSoFar start (record { ahead = now; walk = cut.walk; spans = new }) k
     → k ≡ length start.spans → cut.is_over ≡ false

@@ -123,7 +123,7 @@ written_more stands_for reported one old now n s is number below same =
           ∙ is.rest k (omega (arith, le, longer));
     }
 
--- an answer is told as this, and written as what stands for that
+-- an answer is reported as this, and written as what stands for that
 module _ {S A X Y : Type 0} (found_of : A → Found)
     (IsAnswerTo : S → Text → (s : ℕ) → Option A → Type 0) (stands_for : Y → X)
     (tell : List ℕ → A → Y) where

@@ -30,7 +30,7 @@ pub(crate) enum Refused {
 /// the reason, and the handle holds nothing.
 ///
 /// What was held before is freed. The number of the rejected pattern is written, or the number of
-/// patterns if no single one is rejected. The text of an error is written to the room for a
+/// patterns if no single one is rejected. The text of an error is written to the buffer for a
 /// message, if that is large enough. Its length is written either way, and is 0 if there is no
 /// text. The lengths of the patterns have to add up to that of the bytes; otherwise the answer is
 /// that of a bad offset.

@@ -9,11 +9,10 @@ use crate::list::types::ListGroups;
 use crate::types::{MatchWalk, Span};
 use std::alloc::Global;
 
-/// The groups of the next matches of the patterns in a text, as many as there is room for: 1 with
-/// the spans of the groups of each match, beginning with the whole match, one match after another,
-/// or 0 if none is left. For each match the number of its pattern and the number of that pattern's
-/// groups are written too, and so is the number of these matches. The walk moves past the last of
-/// them.
+/// The groups of the next matches of the patterns in a text, as many as fit: 1 with the spans of
+/// the groups of each match, beginning with the whole match, one match after another, or 0 if none
+/// is left. For each match the number of its pattern and the number of that pattern's groups are
+/// written too, and so is the number of these matches. The walk moves past the last of them.
 ///
 /// They are the matches of `regex_lite_list_find_all`. 1 means that no further match would have
 /// fitted: none is left, or there is no room for the number of the next or for its groups. If

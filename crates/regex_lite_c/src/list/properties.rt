@@ -21,7 +21,7 @@ pub extern "C" fn regex_lite_list_len(alloc: Global, handle: &mut ListHandle) ->
     ask(alloc, handle, 0, |list| list.len())
 }
 
-/// Writes the pattern with this number to the room: 1, or 0 if there is none.
+/// Writes the pattern with this number to the buffer: 1, or 0 if there is none.
 #[unsafe(no_mangle)]
 pub extern "C" fn regex_lite_list_pattern_at(
     alloc: Global,

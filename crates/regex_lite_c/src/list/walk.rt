@@ -9,9 +9,9 @@ use crate::types::MatchWalk;
 use crate::walk::find_all;
 use std::alloc::Global;
 
-/// The next matches of the patterns in a text, as many as there is room for: 1 with their numbers
-/// and spans written, or 0 if none is left. The number of these matches is written too, and the
-/// walk moves past the last of them.
+/// The next matches of the patterns in a text, as many as fit: 1 with their numbers and spans
+/// written, or 0 if none is left. The number of these matches is written too, and the walk moves
+/// past the last of them.
 ///
 /// They are the matches in the text from left to right, and no two overlap. The search for the next
 /// match, for all patterns, starts where the last one ended; if it finds an empty match right

@@ -13,7 +13,7 @@ use std::alloc::Global;
 
 /// Which of the patterns match somewhere from this offset on: 1 with a byte written for each
 /// pattern by its number, 1 if it matches and 0 if it doesn't. The number of patterns is written
-/// even if there is too little room for the bytes.
+/// even if the bytes don't fit.
 #[unsafe(no_mangle)]
 pub extern "C" fn regex_lite_list_matches(
     alloc: Global,
@@ -48,7 +48,7 @@ fn matches(list: &RegexList, text: &[u8], start: usize) -> Result<SetMatches, u3
     list.matches_at(text, start).map_err(|_| OUT_OF_MEMORY)
 }
 
-/// Writes for each pattern whether it matches, or nothing if there is too little room, and writes
+/// Writes for each pattern whether it matches, or nothing if the buffer is too small, and writes
 /// the number of patterns.
 fn write_flags(set: &SetMatches, matched: &mut [u8], count: &mut usize) -> u32
     ensures count { count.new ≡ length set.now }
