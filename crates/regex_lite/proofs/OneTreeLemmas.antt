@@ -45,7 +45,7 @@ has_reported re haystack start found (tree, given, reported) = (
       (one_tree re.flags (chars re.pattern) matches.0 tree matches.1 given) matches.2),
 )
 
--- a pattern may be empty exactly if it isn't told that each match reads
+-- a pattern may be empty exactly if it isn't reported that each match reads
 pub empty_reported : (reads empty : Bool) → reads ≡ not empty → not reads ≡ empty
 empty_reported reads true is = ap not is
 empty_reported reads false is = ap not is

@@ -16,7 +16,7 @@ use Rattle.regex_lite_engine.proofs.laws.several.ListAnswerLemmas.{one_list_answ
 use Rattle.regex_lite.proofs.ListBuildLemmas.{one_list, pattern_tree}
 use Rattle.regex_lite.proofs.OneTreeLemmas.{one_tree}
 
--- what is told of a way lies in the haystack
+-- what is reported of a way lies in the haystack
 pub way_within : (tree : Tree) (haystack : Text) (found : Found) → IsPatternTree tree
     → IsOfWay tree haystack found → (found.start ≤ found.end) × (found.end ≤ length haystack)
 way_within tree haystack found given is =

@@ -123,7 +123,7 @@ module _ (bytes : List ℕ) (utf8 : IsUtf8 bytes) (start : ℕ) (list : List Exp
       (found_lies bytes utf8 answer.tree of_grammar found
       (way_of_found answer.tree (chars bytes) found.start found answer.answer))
 
-  -- a way is told of
+  -- a way is reported
   pub listed_way_reported : TellsOfListedWay list bytes number span kept
   listed_way_reported = record {
     trees = trees;

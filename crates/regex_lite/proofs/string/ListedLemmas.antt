@@ -1,4 +1,4 @@
--- One pattern of a list, by its number: what is told of its tree is what is returned.
+-- One pattern of a list, by its number: what is reported of its tree is what is returned.
 use Rattle.regex_lite.proofs.Common.{◌≡◌, ℕ, ◌*◌, ◌<◌, ◌↔◌, Bool, List, get_or, length, slice_get}
 use Rattle.regex_lite.proofs.Common.{IsTrue, IsUtf8, IfSome, Some, None, Option, chars, sym, ap}
 use Rattle.regex_lite.proofs.Common.{◌∙◌}

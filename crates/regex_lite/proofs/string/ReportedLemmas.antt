@@ -44,7 +44,7 @@ outcome_of re compiled built graph Outcomes reported outcome given same tells is
       (tells built.tree built.regular (subst (IsGraphOf built.tree) (sym same) built.graph)),
 )
 
--- and so does what is told of the graph that a searcher holds
+-- and so does what holds of the graph that a searcher holds
 pub of_held : (compiled : Compiled) → IsBuilt compiled → (graph : StoredGraph)
     → graph ≡ compiled.graph → (property : Tree → Type 0)
     → ((tree : Tree) → IsRegular tree → IsGraphOf tree graph → property tree)
@@ -86,7 +86,7 @@ module _ (bytes : List ℕ) (utf8 : IsUtf8 bytes) (start : ℕ) (re : Expression
     ),
   )
 
-  -- a way is told of
+  -- a way is reported
   pub way_reported : TellsOfWay re bytes span slots
   way_reported = record {
     tree = own.0;
@@ -98,7 +98,7 @@ module _ (bytes : List ℕ) (utf8 : IsUtf8 bytes) (start : ℕ) (re : Expression
     };
   }
 
-  -- it is told with its slots
+  -- it is reported with its slots
   pub span_reported : TellsSpan re bytes start slots (Some (tt {0}, span))
   span_reported = (
     found,

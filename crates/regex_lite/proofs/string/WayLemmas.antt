@@ -1,4 +1,4 @@
--- What an anchored search returns is told of a way of the pattern.
+-- What an anchored search returns is that of a way of the pattern.
 use Rattle.regex_lite.proofs.Common.{◌≡◌, ℕ, Bool, List, Some, IsUtf8, Option, chars, sym, refl}
 use Rattle.regex_lite.proofs.Common.{◌∙◌}
 use Rattle.regex_lite.proofs.Common.{subst, Found, search_start, Expression, OfTree, LiesIn}
@@ -35,7 +35,7 @@ module _ (whole : Bool) (bytes : List ℕ) (utf8 : IsUtf8 bytes) (start : ℕ) (
     (found, own.2.1, record { haystack = haystack; span = is ∙ sym span_is }),
   )
 
-  -- a way is told of
+  -- a way is reported
   pub way_at_reported : TellsOfWay re bytes span slots
   way_at_reported = record {
     tree = own.0;

@@ -41,7 +41,7 @@ pub(super) fn whole_slots(alloc: Global, kept: usize) -> Result<Vec<Option<usize
 }
 
 /// The slots of all groups of a match with this span, of which a search kept these. If it kept
-/// none, the slots of the whole match go to the room that was allocated before the search.
+/// none, the slots of the whole match go to the memory that was allocated before the search.
 pub(super) fn slots_with(
     kept: Vec<Option<usize>>,
     mut whole: Vec<Option<usize>>,

@@ -8,7 +8,7 @@ use Rattle.regex_lite.proofs.string.ListSlotLemmas.{width_kept}
 use Rattle.regex_lite.proofs.string.list.RegexList.captured.Goals as goal
 use Rattle.regex_lite.proofs.string.list.RegexList.captured.Goals.{After-truncate}
 
--- the slots hold the groups of the way that the search told of
+-- the slots hold the groups of the way that the search reported
 listed : (c : After-truncate) (trees : List Tree) (tree : Tree) (own : Found)
     → AreTrees c.args.self.now trees → HasTree trees c.args.found.0 tree
     → IsReportedOfWay tree c.args.haystack.now (c.args.found.1.start, c.args.found.1.end)

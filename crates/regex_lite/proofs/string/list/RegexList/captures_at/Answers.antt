@@ -8,7 +8,7 @@ use Rattle.regex_lite_engine.proofs.laws.answer.AnswerAtLemmas.{way_of_found}
 use Rattle.regex_lite.proofs.string.list.RegexList.captures_at.Goals as goal
 use Rattle.regex_lite.proofs.string.list.RegexList.captures_at.Goals.{In-Some}
 
--- what the search told of
+-- what the search reported
 reported : (c : In-Some)
     → TellsOutcomeOfList c.args.self.now c.args.haystack.now c.args.start (Some c.in-Some.found)
 reported c = (

@@ -8,7 +8,7 @@ use Rattle.regex_lite.proofs.string.ListedLemmas.{there, tree_at}
 use Rattle.regex_lite.proofs.string.list.RegexList.captures_of_at.Goals as goal
 use Rattle.regex_lite.proofs.string.list.RegexList.captures_of_at.Goals.{After-of_listed-source}
 
--- the slots hold the groups that the search told of
+-- the slots hold the groups that the search reported
 reported : (c : After-of_listed-source)
     → AreGroups
     (groups_of c.args.haystack.now c.slots_with-slots.result.items c.of_listed-source.result)

@@ -4,7 +4,7 @@ use Rattle.regex_lite.proofs.string.ListReportedLemmas.{outcome_of_list}
 use Rattle.regex_lite.proofs.string.list.RegexList.find_counted_at.Goals as goal
 use Rattle.regex_lite.proofs.string.list.RegexList.find_counted_at.Goals.{In-Some}
 
--- what the search told of
+-- what the search reported
 reported : (c : In-Some) → IsOutcomeOfList c.self.invariant.trees c.args.haystack.now c.args.start
     (Some (c.in-Some.number, c.in-Some.outcome))
 reported c =

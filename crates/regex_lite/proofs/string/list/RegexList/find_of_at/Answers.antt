@@ -8,7 +8,7 @@ use Rattle.regex_lite.proofs.string.list.RegexList.find_of_at.Goals.{In-Some}
 given : (c : In-Some) → AreTrees c.args.self.now c.self.invariant.trees
 given c = rw (← c.self.view_is) c.self.invariant.given
 
--- what the search told of
+-- what the search reported
 reported : (c : In-Some) → IsOutcome
     (tree_at c.args.self.now c.self.inside.compiled c.self.invariant (given c) c.args.number
     c.requires.number) c.args.haystack.now c.args.start (Some c.in-Some.outcome)

@@ -8,7 +8,7 @@ use Rattle.regex_lite.proofs.string.list.RegexList.groups_anchored.Given as give
 use Rattle.regex_lite.proofs.string.list.RegexList.groups_anchored.Goals as goal
 use Rattle.regex_lite.proofs.string.list.RegexList.groups_anchored.Goals.{In-Some}
 
--- what the search told of
+-- what the search reported
 reported : (g : given.Over) (c : In-Some g) → IsOutcomeAtOfList (not (g.row.WHOLE == 0))
     c.self.invariant.trees c.args.haystack.now c.args.start (Some c.in-Some.found)
 reported g c =

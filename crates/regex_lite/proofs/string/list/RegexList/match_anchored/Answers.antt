@@ -7,7 +7,7 @@ use Rattle.regex_lite.proofs.string.list.RegexList.match_anchored.Given as given
 use Rattle.regex_lite.proofs.string.list.RegexList.match_anchored.Goals as goal
 use Rattle.regex_lite.proofs.string.list.RegexList.match_anchored.Goals.{In-Some}
 
--- what the search told of
+-- what the search reported
 reported : (g : given.Over) (c : In-Some g) → IsOutcomeAtOfList (not (g.row.WHOLE == 0))
     c.self.invariant.trees c.args.haystack.now c.args.start
     (Some (c.in-Some.number, c.in-Some.outcome))

@@ -7,7 +7,7 @@ use Rattle.regex_lite.proofs.string.ReportedLemmas.{groups_reported}
 use Rattle.regex_lite.proofs.string.regex.Regex.captured.Goals as goal
 use Rattle.regex_lite.proofs.string.regex.Regex.captured.Goals.{After-of_regex-source}
 
--- the slots hold the groups of the way that the search told of
+-- the slots hold the groups of the way that the search reported
 reported : (c : After-of_regex-source) (tree : Tree) (found : Found)
     → IsTree c.args.self.now.flags (chars c.args.self.now.pattern) tree
     → IsReportedOfWay tree c.args.haystack.now (c.args.outcome.start, c.args.outcome.end)

@@ -4,7 +4,7 @@ use Rattle.regex_lite.proofs.string.ReportedLemmas.{match_reported, outcome_of, 
 use Rattle.regex_lite.proofs.string.regex.Regex.find_counted_at.Goals as goal
 use Rattle.regex_lite.proofs.string.regex.Regex.find_counted_at.Goals.{In-Some}
 
--- what the search told of
+-- what the search reported
 reported : (c : In-Some) → OfTree c.args.self.now
     (λ tree. IsOutcome tree c.args.haystack.now c.args.start (Some c.in-Some.outcome))
 reported c =

@@ -7,7 +7,7 @@ use Rattle.regex_lite.proofs.string.regex.Regex.match_anchored.Given as given
 use Rattle.regex_lite.proofs.string.regex.Regex.match_anchored.Goals as goal
 use Rattle.regex_lite.proofs.string.regex.Regex.match_anchored.Goals.{In-Some}
 
--- what the search told of
+-- what the search reported
 reported : (g : given.Over) (c : In-Some g) → OfTree c.args.self.now
     (λ tree. IsOutcomeAt (not (g.row.WHOLE == 0)) tree c.args.haystack.now c.args.start
     (Some c.in-Some.outcome))

@@ -10,7 +10,7 @@ use Rattle.regex_lite.proofs.string.searcher.Searcher.find_anchored.Given as giv
 use Rattle.regex_lite.proofs.string.searcher.Searcher.find_anchored.Goals as goal
 use Rattle.regex_lite.proofs.string.searcher.Searcher.find_anchored.Goals.{In_ok-from}
 
--- what the search told of
+-- what the search reported
 reported : (g : given.Over) (c : In_ok-from g) → OfTree c.self.inside.regex.pattern
     (λ tree. IsSpanOutcomeAt (not (g.row.WHOLE == 0)) tree c.args.haystack.now c.args.start
     (row_of_graph c.search_anchored.new.self) (Some (c.in_ok-from.from, c.in_ok-from.to)))

@@ -11,7 +11,7 @@ use Rattle.regex_lite.proofs.string.ReportedLemmas.{same_pair}
 use Rattle.regex_lite.proofs.string.list.searcher.ListSearcher.find_anchored_at.Goals as goal
 use Rattle.regex_lite.proofs.string.list.searcher.ListSearcher.find_anchored_at.Goals.{In_ok-number}
 
--- what the search told of
+-- what the search reported
 reported : (c : In_ok-number) → OfTrees c.self.inside.list.now
     (λ trees. IsSpanOutcomeAtOfList false trees c.args.haystack.now c.args.start
     c.search_anchored.new.self.slots
