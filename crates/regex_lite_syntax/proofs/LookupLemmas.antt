@@ -62,7 +62,7 @@ mapped_there f xs k x less is =
     slice_get-map f xs k
     ∙ ap (option_map f) (slice_get-get_or xs k x less ∙ ap Some (sym is))
 
--- what is told of several trees, one after another, is told of the next one too
+-- what holds of several trees, one after another, holds of the next one too
 pub reported_more : {A : Type 0} (Reported : Tree → A → Type 0) (trees : List Tree) (list : List A)
     (tree : Tree) (next : A) → slice_get trees (length list) ≡ Some tree → Reported tree next
     → ((number : ℕ) (own : Tree) (found : A) → slice_get trees number ≡ Some own
