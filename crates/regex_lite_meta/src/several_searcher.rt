@@ -2,7 +2,7 @@
 //!
 //! A search without slots may find where a match starts and ends and of which pattern it is. A
 //! search for that pattern alone then finds the slots. The list's match is that pattern's first, so
-//! both find the same, and one pattern between known ends costs less than the slots of all.
+//! both find the same, and one pattern within a known span costs less than the slots of all.
 ghost use Rattle.std.specs.Prelude.{◌≡◌, ◌<◌, ℕ, IfOk, IsCharBoundary, Some, chars, false};
 ghost use Rattle.std.specs.Prelude.{length};
 ghost use Rattle.regex_lite_meta.specs.LazyDfa.Scanning.{best_reported};

@@ -1,4 +1,4 @@
-//! One pass over a haystack for all patterns of a list, by their index of starts.
+//! One pass over a haystack for all patterns of a list, by their prefix index.
 ghost use Rattle.std.specs.Prelude.{◌≡◌, ◌+◌, ◌<◌, ℕ, List, IfErr, IfOk, IsCharBoundary, IsTrue};
 ghost use Rattle.std.specs.Prelude.{chars, false, length, slice_index, slice_index_or};
 ghost use Rattle.regex_lite_syntax.specs.Tree.{Tree};
