@@ -24,8 +24,8 @@
 //!   byte, so that the compiler uses vectors.
 //! - [`Needed`]: up to four literals of which each match has one, with the set of characters that
 //!   may stand before it. From the next such literal a walk back over these characters leads to the
-//!   first possible start. This is used beside heads or short words, and rules out the rest of a
-//!   haystack that has no such literal.
+//!   first possible start. This is used beside prefix sets or short words, and rules out the rest of
+//!   a haystack that has no such literal.
 //!
 //! [`PrefixIndex`] is an index of several trees: a row of bits for each first and each second
 //! character, with a bit for each pattern, and a mask of third characters. [`ListWords`] has the
@@ -87,7 +87,7 @@ pub enum Prefilter {
 }
 
 impl Prefilter {
-    /// The prefilter for these heads, if few bytes show that a match may begin.
+    /// The prefilter for these prefix sets, if few bytes show that a match may begin.
     pub(crate) fn of(prefixes: &PrefixSets) -> Option<Prefilter>
         ensures { IfSome result (IsPrefilterOf prefixes.now) }
     {
@@ -135,7 +135,7 @@ impl Prefilter {
     }
 
     /// Whether a match may begin in a block of bytes, given the byte after each of them. If false,
-    /// the heads rule out each byte of the block.
+    /// the prefix sets rule out each byte of the block.
     ///
     /// Conditions: `next` is as long as `block`.
     // Inlined, so that the length of a block is known, and no byte of it takes a branch.

@@ -30,7 +30,7 @@ pub record AreAllBytes (starts : FirstSet) (bytes : List ℕ) : Type 0 where
   pub ascii : (byte : ℕ) → stops_at starts byte ≡ true → byte < 128
   pub among : (byte : ℕ) → stops_at starts byte ≡ true → is_among bytes byte ≡ true
 
--- the heads rule out each byte that doesn't suit, unless it is the last one
+-- the prefix sets rule out each byte that doesn't suit, unless it is the last one
 abbrev pub IsPrefilterOf : PrefixSets → Prefilter → Type 0
 IsPrefilterOf prefixes filter =
     (bytes : List ℕ) (k : ℕ) → k + 1 < length bytes

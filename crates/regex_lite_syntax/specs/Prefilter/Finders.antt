@@ -1,6 +1,6 @@
 -- What a search for words rests on: where the rarest letters of one word stand, or how far it may
--- leap from a pair of bytes, which of several words may stand where it can't, and which letter they
--- share.
+-- shift from a pair of bytes, which of several words may stand where it can't, and which letter
+-- they share.
 use Rattle.std.specs.Prelude.{◌≡◌, ◌≤◌, ◌<◌, ◌==◌, if◌then◌else◌, ◌∷◌, [], ℕ, List, IfSome}
 use Rattle.std.specs.Prelude.{drop, length}
 use Rattle.std.specs.Int.{w64, trailing_zeros}
@@ -32,7 +32,7 @@ IsSharedBy words shared =
     (number : ℕ) (bytes : List ℕ) → number < length words → StartsWith (word_at words number) bytes
     → (k : ℕ) × (k ≤ shared.offset) × StartsWith (shared.letter ∷ []) (drop k bytes)
 
--- no word is shorter than the reach, no leap passes one, each is reached by its bucket,
+-- no word is shorter than the reach, no shift passes one, each is reached by its bucket,
 -- and each has the letter that they share
 pub record AreShiftsOf (words : List (List Letter)) (shifts : Shifts) : Type 0 where
   pub two : 2 ≤ shifts.reach

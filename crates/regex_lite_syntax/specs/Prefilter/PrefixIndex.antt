@@ -44,9 +44,9 @@ IsPassedByAll prefixes bytes at =
     ⊎ ((at + 1 < length bytes)
     × NeverBeginsWith prefixes (slice_index bytes at) (Some (slice_index bytes (at + 1))))
 
--- The index is that of the patterns with these heads, in the order of their numbers. A bit is set
--- where the pattern belongs in the row, and nowhere else. A match begins with what some pattern can
--- begin with
+-- The index is that of the patterns with these prefix sets, in the order of their numbers. A bit is
+-- set where the pattern belongs in the row, and nowhere else. A match begins with what some pattern
+-- can begin with
 pub record IsIndexOf (parts : List PrefixSets) (prefixes : PrefixIndex) : Type 0 where
   pub sized : IsSized prefixes.rows prefixes.count
   pub bits : (row number : ℕ) → row < row_count → number < 64 * prefixes.rows.width
@@ -56,7 +56,7 @@ pub record IsIndexOf (parts : List PrefixSets) (prefixes : PrefixIndex) : Type 0
   pub pairs : (first second : ℕ) → first < 128 → second < 128
       → has_pair prefixes first second ≡ list_any (begins_with_pair first second) parts
 
--- the parts are the heads of the trees, one by one
+-- the parts are the prefix sets of the trees, one by one
 pub record AreEachPrefixSetsOf (trees : List Tree) (parts : List PrefixSets) : Type 0 where
   pub all : length parts ≡ length trees
   pub each : (number : ℕ) (tree : Tree) (part : PrefixSets) → slice_get trees number ≡ Some tree

@@ -1,4 +1,4 @@
--- How far a search for several words may leap from a pair of bytes, and how it comes to the words
+-- How far a search for several words may shift from a pair of bytes, and how it comes to the words
 -- that may stand where it can't.
 use Rattle.std.specs.Prelude.{◌≡◌, ◌⊎◌, ◌≤◌, ◌<◌, ◌+◌, ◌-◌, ◌*◌, ◌/◌, ◌%◌, ◌^◌, ℕ, List, bit_and}
 use Rattle.std.specs.Prelude.{bit_xor, length, slice_index, take}
@@ -10,14 +10,14 @@ use Rattle.regex_lite_syntax.specs.Prefilter.Words.{StartsWith, WordStandsAt, wo
 unfoldable pub key_of : (first second : ℕ) → ℕ
 key_of first second = first % 32 * 32 + second % 32
 
--- wherever the word stands, the leap from a pair of its bytes that ends within the reach doesn't
+-- wherever the word stands, the shift from a pair of its bytes that ends within the reach doesn't
 -- pass the place where it begins
 abbrev pub NeverPasses : (reach : ℕ) → (shifts : List ℕ) → (word : List Letter) → Type 0
 NeverPasses reach shifts word =
     (bytes : List ℕ) (k : ℕ) → StartsWith word bytes → k + 2 ≤ reach
     → slice_index shifts (key_of (slice_index bytes k) (slice_index bytes (k + 1))) + k + 2 ≤ reach
 
--- the leaps for each key, none of which passes a word
+-- the shifts for each key, none of which passes a word
 pub record AreShifts (words : List (List Letter)) (reach : ℕ) (shifts : List ℕ) : Type 0 where
   pub keys : length shifts ≡ 1024
   pub below : (key : ℕ) → slice_index shifts key < reach

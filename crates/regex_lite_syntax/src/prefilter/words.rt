@@ -63,7 +63,7 @@ pub struct Words {
 enum WordSearch {
     /// One word, by two of its letters.
     Pair(Pair),
-    /// Several, by leaps.
+    /// Several, by shifts.
     Shifts(Shifts),
 }
 
@@ -166,7 +166,7 @@ impl Words {
         }
     }
 
-    /// How many letters each word has at least, as far as a search leaps.
+    /// How many letters each word has at least, as far as a search shifts.
     pub(super) fn reach(&self) -> usize {
         match &self.finder {
             WordSearch::Pair(_) => self.list.word(0).len(),

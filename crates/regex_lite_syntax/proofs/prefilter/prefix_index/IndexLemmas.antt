@@ -49,7 +49,7 @@ belongs_with parts part n row = elim (cases_eq n (length parts)) [
     same_get (inr le) apart =
         get_beyond parts part n (omega (arith, le, apart)) ∙ sym (slice_get_past parts n le)
 
--- with the heads of one tree more
+-- with the prefix sets of one tree more
 pub prefixes_of_more : (trees : List Tree) (parts : List PrefixSets) (tree : Tree)
     (part : PrefixSets) → AreEachPrefixSetsOf trees parts → ArePrefixSetsOfTree tree part
     → AreEachPrefixSetsOf (trees ++ tree ∷ []) (parts ++ part ∷ [])

@@ -1,4 +1,4 @@
--- What the bytes are at which a word stands, and why a search may leap.
+-- What the bytes are at which a word stands, and why a search may shift.
 use Rattle.regex_lite_syntax.proofs.Common.{◌≡◌, ℕ, zero, suc, ◌+◌, ◌-◌, ◌%◌, ◌<◌, ◌≤◌, List, []}
 use Rattle.regex_lite_syntax.proofs.Common.{◌∷◌, length, get_or, take, drop, replicate, slice_index}
 use Rattle.regex_lite_syntax.proofs.Common.{slice_set, sym, ap, ◌∙◌, subst, inl, inr, arith}
@@ -84,7 +84,7 @@ lowered xs i x k inside lower = elim (cases_eq k i) [
       omega (arith, elsewhere)
 ]
 
--- up to the leap of a pair of bytes that ends a reach, no word stands
+-- up to the shift of a pair of bytes that ends a reach, no word stands
 pub none_before : (words : List (List Letter)) (bytes : List ℕ) (reach : ℕ) (shifts : List ℕ)
     (at p q shift : ℕ) → AreShifts words reach shifts → p + 2 ≡ at + reach → q ≡ p + 1
     → shift ≡ slice_index shifts (key_of (slice_index bytes p) (slice_index bytes q))
@@ -132,7 +132,7 @@ all_below zero shift key = omega arith
 all_below (suc keys) shift zero = omega arith
 all_below (suc keys) shift (suc key) = all_below keys shift key
 
--- where leaps never pass a word, lower ones don't either
+-- where shifts never pass a word, lower ones don't either
 pub never_after : (reach : ℕ) (before after : List ℕ) (word : List Letter)
     → ((key : ℕ) → slice_index after key ≤ slice_index before key)
     → NeverPasses reach before word → NeverPasses reach after word

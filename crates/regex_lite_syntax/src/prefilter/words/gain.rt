@@ -1,4 +1,4 @@
-//! Whether a search by leaps gains on a search for the bytes with which words begin.
+//! Whether a search by shifts gains on a search for the bytes with which words begin.
 use crate::hir::Hir;
 use crate::prefilter::words::frequency::frequency;
 use crate::prefilter::words::letter::Letter;
@@ -52,9 +52,9 @@ impl Column {
     }
 }
 
-/// Whether leaps over so many letters cost no more than a search for the bytes with which the
+/// Whether shifts over so many letters cost no more than a search for the bytes with which the
 /// words begin, and a look at each place where one stands. They cost more where these bytes are
-/// few or rare and the words short: `cat|dog` took 2.1 times as much by leaps in English text,
+/// few or rare and the words short: `cat|dog` took 2.1 times as much by shifts in English text,
 /// `ab|cd` 7 times, and `GET|POST|PUT|HEAD|DELETE` 3.4 times in prose.
 pub(super) fn shifts_pay(list: &WordList, reach: usize) -> bool {
     let mut first = Column::new();
@@ -73,7 +73,7 @@ pub(super) fn shifts_pay(list: &WordList, reach: usize) -> bool {
     first.count <= FEW && second.count <= FEW && pays(first.share / RULED_OUT, reach)
 }
 
-/// Whether leaps may pay for the words of a tree, whatever they are. They don't for branches of
+/// Whether shifts may pay for the words of a tree, whatever they are. They don't for branches of
 /// which one is short, if the bytes with which they begin are rare.
 pub(super) fn may_pay(hir: &Hir) -> bool {
     let Hir::Alternation(branches) = hir else {
@@ -136,12 +136,12 @@ fn ascii_byte(hir: &Hir) -> Option<u8> {
     }
 }
 
-/// Whether leaps of so many bytes at most cost no more than to stop so often in a thousand bytes.
+/// Whether shifts of so many bytes at most cost no more than to stop so often in a thousand bytes.
 fn pays(stops: usize, reach: usize) -> bool {
     cost_of_shifts(reach) <= PASSED.saturating_add(stops.saturating_mul(3) / 2)
 }
 
-/// What a hundred bytes cost by leaps of so many bytes at most.
+/// What a hundred bytes cost by shifts of so many bytes at most.
 fn cost_of_shifts(reach: usize) -> usize {
     match reach {
         0..=2 => 130,

@@ -1,4 +1,11 @@
 //! A search for one word by its two rarest letters.
+//!
+//! Blocks of 32 offsets are compared with both letters at once. Where the word may stand in one, 16
+//! offsets are compared at a time, and the lowest bit of the mask is the next of them at which both
+//! letters stand. The byte that was wrong where the word last failed to stand is compared first at
+//! the next offset, so that a word that repeats itself, such as `a{100}`, is compared once for some
+//! 32 offsets, also in a text that nearly matches. Of a word of more than 16 letters the two
+//! letters differ.
 ghost use Rattle.std.specs.Prelude.{◌≡◌, ◌<◌, ◌≤◌, ◌+◌, ◌∷◌, [], ℕ, IfSome, MatchOption, false};
 ghost use Rattle.std.specs.Prelude.{length, slice_index};
 ghost use Rattle.regex_lite_syntax.specs.Prefilter.Words.{AnyStandsAt, IsLetter, NoneStands};

@@ -1,4 +1,4 @@
-//! A search for several words by leaps.
+//! A search for several words by shifts.
 ghost use Rattle.std.specs.Prelude.{◌≡◌, ◌↔◌, ◌<◌, ◌≤◌, ◌+◌, ◌^◌, ℕ, List, IfOk, IsTrue};
 ghost use Rattle.std.specs.Prelude.{MatchOption, length, slice_index};
 ghost use Rattle.regex_lite_syntax.specs.Prefilter.Finders.{AreShiftsOf};
@@ -23,18 +23,18 @@ use std::alloc::{AllocError, Global};
 /// How many keys a pair of bytes can have.
 const KEYS: usize = 1024;
 
-/// How far a search leaps at most.
+/// How far a search shifts at most.
 const MOST_REACH: usize = 16;
 
 /// How many letters the bucket of a word depends on at most.
 const MOST_HASHED: usize = 4;
 
-/// How far a search for words may leap, and which of them may stand where it can't.
+/// How far a search for words may shift, and which of them may stand where it can't.
 #[derive(Drop)]
 pub(super) struct Shifts {
     /// How many letters each word has at least.
     reach: usize,
-    /// For each key of a pair of bytes that ends the reach, how far it may leap.
+    /// For each key of a pair of bytes that ends the reach, how far it may shift.
     shifts: Vec<u8>,
     /// On how many letters a bucket depends.
     hashed: usize,
@@ -75,7 +75,7 @@ impl Shifts {
         })
     }
 
-    /// How many letters each word has at least, as far as a search leaps.
+    /// How many letters each word has at least, as far as a search shifts.
     pub(super) fn reach(&self) -> usize {
         self.reach
     }
@@ -83,7 +83,7 @@ impl Shifts {
     /// The first offset from this one on at which a word stands, and the first word that stands
     /// there.
     ///
-    /// Condition: the leaps are those of the words, and the offset is at most the length.
+    /// Condition: the shifts are those of the words, and the offset is at most the length.
     // Not inlined, since the loop of a search is so large that this one would lose its registers.
     #[inline(never)]
     pub(super) fn find(&self, words: &WordList, bytes: &[u8], from: usize) -> Option<(usize, usize)>
@@ -104,7 +104,7 @@ impl Shifts {
 
     /// Whether a word stands at this offset.
     ///
-    /// Condition: the leaps are those of the words, and the offset is at most the length.
+    /// Condition: the shifts are those of the words, and the offset is at most the length.
     // Not inlined, as `find` isn't.
     #[inline(never)]
     pub(super) fn stands_at(&self, words: &WordList, bytes: &[u8], at: usize) -> bool
@@ -176,7 +176,7 @@ fn key(first: u8, second: u8) -> usize
     (first % 32) as usize * 32 + (second % 32) as usize
 }
 
-/// The leaps for these words, each of which has as many letters as the reach.
+/// The shifts for these words, each of which has as many letters as the reach.
 ///
 /// # Errors
 ///
@@ -195,7 +195,7 @@ fn shifts_of(alloc: Global, words: &WordList, reach: usize) -> Result<Vec<u8>, A
     Ok(shifts)
 }
 
-/// Lowers the leaps for the pairs of the word.
+/// Lowers the shifts for the pairs of the word.
 fn lower(shifts: &mut [u8], word: &[Letter], reach: usize)
     requires two { 2 ≤ reach }
     requires few { reach ≤ 16 }

@@ -1,4 +1,4 @@
-//! Which of several patterns have a word that stands in a text, found by leaps.
+//! Which of several patterns have a word that stands in a text, found by shifts.
 ghost use Rattle.std.specs.Prelude.{◌≡◌, ◌≤◌, ◌<◌, ◌+◌, ℕ, IfSome, MatchOption, length};
 ghost use Rattle.std.specs.Prelude.{slice_index};
 ghost use Rattle.regex_lite_syntax.specs.Prefilter.Finders.{AreShiftsOf};
@@ -16,7 +16,7 @@ use crate::prefilter::words::standing::stands;
 /// instructions.
 const CALL: usize = 100;
 
-/// What leaps take a byte.
+/// What shifts take a byte.
 const BYTE: usize = 3;
 
 /// What a stop takes besides the words that may stand there.
@@ -30,7 +30,7 @@ impl Shifts {
     /// costs no more than a search for each of the others. Returns the offset at which it left off,
     /// before which it has marked all. None if it came to the end.
     ///
-    /// Condition: the leaps are those of the words, and the offset is at most the length.
+    /// Condition: the shifts are those of the words, and the offset is at most the length.
     // Not inlined, since its loop would lose its registers.
     #[inline(never)]
     pub(in crate::prefilter::words) fn mark(
@@ -125,7 +125,7 @@ impl<'w> Numbered<'w> {
     }
 }
 
-/// What a search by leaps may still spend. It earns what searches for the words of the patterns
+/// What a search by shifts may still spend. It earns what searches for the words of the patterns
 /// that are open would take, and pays for its stops and for the words that it compares.
 #[derive(Drop)]
 struct Budget {
@@ -175,7 +175,7 @@ impl Budget {
     }
 }
 
-/// What searches for so many words of each open pattern take a byte more than leaps.
+/// What searches for so many words of each open pattern take a byte more than shifts.
 fn rate_of(open: usize, each: usize) -> usize {
     open.saturating_mul(each).saturating_sub(BYTE)
 }

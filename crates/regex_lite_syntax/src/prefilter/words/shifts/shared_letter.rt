@@ -9,7 +9,7 @@ use crate::prefilter::words::letter::Letter;
 use crate::prefilter::words::pair::{Pair, rank_of};
 use crate::prefilter::words::word_list::WordList;
 
-/// Letters of a higher rank aren't looked for: they stand so near in most texts that leaping there
+/// Letters of a higher rank aren't looked for: they stand so near in most texts that shifting there
 /// takes as much.
 const RARE: u8 = 5;
 

@@ -6,17 +6,17 @@ ghost use Rattle.regex_lite_syntax.specs.Prefilter.Words.{AnyStandsAt, NoneStand
 
 use crate::prefilter::words::shifts::{Shifts, key};
 
-/// How many offsets a search leaps over before it looks for a letter that the words share. In few
-/// bytes, leaping takes less.
+/// How many offsets a search shifts over before it looks for a letter that the words share. In few
+/// bytes, shifting takes less.
 const NEAR: usize = 32;
 
-/// Offsets at which words are looked for by leaps.
+/// Offsets at which words are looked for by shifts.
 ///
 /// Behind them, a letter that the words share is looked for, and words only from where they may
 /// have it there. A search looks for the letter once at each byte, and so do the searches of an
 /// iterator together: each word has the letter, so a search that finds a word has looked for the
 /// letter no further than to the word's end. Where the letter was near, looking for it took more
-/// than leaping there, so the next span is twice as long: a search of a text in which the letter
+/// than shifting there, so the next span is twice as long: a search of a text in which the letter
 /// stands everywhere looks for it a few times.
 #[derive(Drop)]
 pub(super) struct ShiftSpan {
@@ -40,7 +40,7 @@ impl Shifts {
         ShiftSpan { end, len: NEAR }
     }
 
-    /// The first offset from this one on that no leap passes: no word stands before it.
+    /// The first offset from this one on that no shift passes: no word stands before it.
     #[inline(always)]
     pub(super) fn next_stop(&self, bytes: &[u8], from: usize, span: &mut ShiftSpan) -> Option<usize>
         requires from { from ≤ length bytes.now }
@@ -62,7 +62,7 @@ impl Shifts {
         }
     }
 
-    /// The first offset from this one on that no leap passes, or if each is passed that is before
+    /// The first offset from this one on that no shift passes, or if each is passed that is before
     /// the end, one that isn't.
     #[inline(always)]
     fn shift(&self, bytes: &[u8], from: usize, end: usize) -> usize

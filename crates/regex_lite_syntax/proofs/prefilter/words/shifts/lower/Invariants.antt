@@ -2,7 +2,7 @@ use Rattle.regex_lite_syntax.proofs.Common.{ℕ, ◌+◌, ◌<◌, ◌≤◌, Li
 use Rattle.regex_lite_syntax.specs.Prefilter.Shifts.{key_of}
 use Rattle.regex_lite_syntax.proofs.prefilter.words.shifts.lower.Given as goal
 
--- leaps from the pairs so far don't pass the word
+-- shifts from the pairs so far don't pass the word
 abbrev pub invariant-pairs : goal.invariant-pairs
 invariant-pairs l = record {
   lower : (key : ℕ) → slice_index l.shifts key ≤ slice_index l.fn.shifts key;

@@ -2,7 +2,7 @@ use Rattle.regex_lite_syntax.proofs.Common.{◌≡◌, ℕ, ◌<◌, length, sli
 use Rattle.regex_lite_syntax.specs.Prefilter.WordLists.{all_words}
 use Rattle.regex_lite_syntax.proofs.prefilter.words.shifts.shifts_of.Given as goal
 
--- leaps don't pass the words so far
+-- shifts don't pass the words so far
 abbrev pub invariant-words : goal.invariant-words
 invariant-words l = record {
   keys : length l.shifts.items ≡ 1024;
