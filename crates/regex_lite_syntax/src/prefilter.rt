@@ -13,23 +13,22 @@
 //!
 //! - [`Words`]: literals with one of which each match begins. A single one is found by its two
 //!   rarest letters, which blocks of 32 offsets are compared with (`pair`). Several are found by
-//!   skips over pairs of bytes, as in the algorithm of Wu and Manber: the pair that ends a window
-//!   as long as the shortest word tells how far it may move, and a hash of the first letters leads
-//!   to the words to compare (`shifts`). A letter may stand for both of its cases. A pattern that
-//! is
-//!   nothing but its words needs no engine.
+//!   shifts, as in the algorithm of Wu and Manber: the pair of bytes that ends a window as long as
+//!   the shortest word tells how far it may move, and a hash of the first letters leads to the words
+//!   to compare (`shifts`). A rare letter that all of them share is looked for first. A letter may
+//!   stand for both of its cases. A pattern that is nothing but its words needs no engine.
 //! - [`PrefixSets`]: the first set, and a second set if it has at most 16 ASCII characters. If few
-//! bytes
-//!   begin a match, a [`Prefilter`] compares a block of 32 with all of them. It has no branch for a
-//!   byte, so that the compiler uses vectors.
+//!   bytes begin a match, a [`Prefilter`] compares a block of 32 with all of them. It has no branch
+//!   for a byte, so that the compiler uses vectors.
 //! - [`Needed`]: up to four literals of which each match has one, with the set of characters that
 //!   may stand before it. From the next such literal a walk back over these characters leads to the
 //!   first possible start. This is used beside prefix sets or short words, and rules out the rest of
 //!   a haystack that has no such literal.
 //!
 //! [`PrefixIndex`] is an index of several trees: a row of bits for each first and each second
-//! character, with a bit for each pattern, and a mask of third characters. [`ListWords`] has the
-//! words of a list of which each pattern is nothing but words.
+//! character, with a bit for each pattern, and a mask of third characters. If each pattern of a list
+//! needs a literal and these are at most four, the list has them all as its [`Needed`]. [`ListWords`]
+//! has the words of a list of which each pattern is nothing but words.
 //!
 //! # Trade-offs and limits
 //!
@@ -45,9 +44,9 @@
 //!
 //! # Where it is used
 //!
-//! `search/skip.rt` of `regex_lite_engine` skips offsets by it, for both engines and for the lazy
-//! DFA, and `strategy` in `regex_lite_meta` chooses by how matches begin. Read `filter` next, then
-//! `starts`, `prefixes` and `words`.
+//! `search/start_finder.rt` of `regex_lite_engine` skips offsets by it, for a pattern and for a list,
+//! for both engines and for the lazy DFA, and `strategy` in `regex_lite_meta` chooses by how matches
+//! begin. Read `filter` next, then `first_set`, `prefixes` and `words`.
 ghost use Rattle.std.specs.Prelude.{◌≡◌, ◌≤◌, ◌<◌, ◌+◌, ◌*◌, ℕ, IfSome};
 ghost use Rattle.std.specs.Prelude.{IsTrue, false, true, length, slice_index};
 ghost use Rattle.regex_lite_syntax.specs.declared.prefilter.Prefilter.TheVariants.{
