@@ -2,10 +2,10 @@
 ghost use Rattle.std.specs.Prelude.{◌≡◌, ◌≢◌, ◌<◌, ◌≤◌, ◌++◌, ℕ, List, ◌∷◌, []};
 ghost use Rattle.std.specs.Prelude.{IfErr, IfOk, MatchOption, OnOk, drop, length, take, true};
 ghost use Rattle.std.specs.Io.KnownBytes.{Consumes, IsAtEnd};
-ghost use Rattle.line_filter.specs.declared.fault.Fault.TheVariants.{Unwritten};
+ghost use Rattle.line_filter.specs.declared.fault.FilterFault.TheVariants.{Unwritten};
 ghost use Rattle.line_filter.specs.Lines.{lines_of};
 
-use crate::fault::Fault;
+use crate::fault::FilterFault;
 use memchr::{memchr, memrchr};
 use std::alloc::{AllocError, Global};
 use std::io;
@@ -18,13 +18,13 @@ const BLOCK: usize = 65536;
 
 /// The bytes that were read but not yet filtered.
 #[derive(Drop)]
-pub(crate) struct Block {
+pub(crate) struct InputBlock {
     /// The memory of the block, the front of which is in use.
     bytes: Vec<u8>,
     filled: usize,
 }
 
-impl Model for Block {
+impl Model for InputBlock {
     ghost use Rattle.std.specs.Prelude.{◌≤◌, ℕ, List, length, take};
 
     ghost Value = { List ℕ };
@@ -34,12 +34,12 @@ impl Model for Block {
     ghost invariant = { λ block. block.filled ≤ length block.bytes.items };
 }
 
-impl Block {
+impl InputBlock {
     /// A block without bytes.
-    pub fn new(alloc: Global) -> Block
+    pub fn new(alloc: Global) -> InputBlock
         ensures { result ≡ [] }
     {
-        Block {
+        InputBlock {
             bytes: Vec::new(alloc),
             filled: 0,
         }
@@ -65,7 +65,7 @@ impl Block {
     /// # Errors
     ///
     /// `Unreadable` if the read failed, and `Refused` if memory ran out.
-    pub fn read_from<R: Read>(&mut self, input: &mut R) -> Result<bool, Fault>
+    pub fn read_from<R: Read>(&mut self, input: &mut R) -> Result<bool, FilterFault>
         ensures read { IfOk result (λ is_end. (bytes : List ℕ)
             × (self.new ≡ self.old ++ bytes)
             × Consumes (R.remaining input.old) (R.remaining input.new) bytes
@@ -79,7 +79,7 @@ impl Block {
                 Ok(count == 0)
             }
             Err(error) if error.kind() == io::ErrorKind::Interrupted => Ok(false),
-            Err(_) => Err(Fault::Unreadable),
+            Err(_) => Err(FilterFault::Unreadable),
         }
     }
 

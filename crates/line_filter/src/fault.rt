@@ -5,7 +5,7 @@ use std::{fmt, io};
 
 /// Why a run of the filter ends early.
 #[derive(Debug, Drop)]
-pub enum Fault {
+pub enum FilterFault {
     /// The arguments aren't a pattern, with or without the flag.
     Usage,
     /// The pattern was rejected, or memory ran out.
@@ -16,54 +16,54 @@ pub enum Fault {
     Unwritten,
 }
 
-impl fmt::Display for Fault {
+impl fmt::Display for FilterFault {
     fn fmt<W: fmt::Write>(&self, f: &mut fmt::Formatter<W>) -> fmt::Result {
         match self {
-            Fault::Usage => write!(f, "usage: line_filter [-v] PATTERN"),
-            Fault::Refused(error) => write!(f, "{error}"),
-            Fault::Unreadable => write!(f, "standard input cannot be read"),
-            Fault::Unwritten => write!(f, "standard output cannot be written"),
+            FilterFault::Usage => write!(f, "usage: line_filter [-v] PATTERN"),
+            FilterFault::Refused(error) => write!(f, "{error}"),
+            FilterFault::Unreadable => write!(f, "standard input cannot be read"),
+            FilterFault::Unwritten => write!(f, "standard output cannot be written"),
         }
     }
 }
 
-impl From<Error> for Fault {
+impl From<Error> for FilterFault {
     ghost use Rattle.std.specs.Prelude.{◌≡◌};
-    ghost use Rattle.line_filter.specs.declared.fault.Fault.TheVariants.{Refused};
+    ghost use Rattle.line_filter.specs.declared.fault.FilterFault.TheVariants.{Refused};
 
     ghost from_gives = { λ error fault. fault ≡ Refused error };
 
-    fn from(error: Error) -> Fault {
-        Fault::Refused(error)
+    fn from(error: Error) -> FilterFault {
+        FilterFault::Refused(error)
     }
 }
 
-impl From<AllocError> for Fault {
+impl From<AllocError> for FilterFault {
     ghost use Rattle.std.specs.Prelude.{◌≡◌};
     ghost use Rattle.regex_lite.specs.Errors.{out_of_memory};
-    ghost use Rattle.line_filter.specs.declared.fault.Fault.TheVariants.{Refused};
+    ghost use Rattle.line_filter.specs.declared.fault.FilterFault.TheVariants.{Refused};
 
     ghost from_gives = { λ _ fault. fault ≡ Refused out_of_memory };
 
-    fn from(_: AllocError) -> Fault {
-        Fault::Refused(Error::memory())
+    fn from(_: AllocError) -> FilterFault {
+        FilterFault::Refused(Error::memory())
     }
 }
 
-impl<T: Drop> From<AllocFailed<T>> for Fault {
-    fn from(_: AllocFailed<T>) -> Fault {
-        Fault::Refused(Error::memory())
+impl<T: Drop> From<AllocFailed<T>> for FilterFault {
+    fn from(_: AllocFailed<T>) -> FilterFault {
+        FilterFault::Refused(Error::memory())
     }
 }
 
-impl From<io::Error> for Fault {
+impl From<io::Error> for FilterFault {
     ghost use Rattle.std.specs.Prelude.{◌≡◌};
-    ghost use Rattle.line_filter.specs.declared.fault.Fault.TheVariants.{Unwritten};
+    ghost use Rattle.line_filter.specs.declared.fault.FilterFault.TheVariants.{Unwritten};
 
     ghost from_gives = { λ _ fault. fault ≡ Unwritten };
 
     /// The fault for a failed write.
-    fn from(_: io::Error) -> Fault {
-        Fault::Unwritten
+    fn from(_: io::Error) -> FilterFault {
+        FilterFault::Unwritten
     }
 }

@@ -1,11 +1,11 @@
 //! The lines of an input that a pattern matches, or doesn't match.
 ghost use Rattle.std.specs.Prelude.{◌≡◌, ◌≢◌, ◌↔◌, IfErr, IfOk, IfSome, IsTrue};
-ghost use Rattle.line_filter.specs.declared.fault.Fault.TheVariants.{Unwritten};
+ghost use Rattle.line_filter.specs.declared.fault.FilterFault.TheVariants.{Unwritten};
 ghost use Rattle.line_filter.specs.Lines.{AreFiltered, IsBegun, IsSelected, LineMatches};
 ghost use Rattle.line_filter.specs.Lines.{lines_of, text_of};
 
-use crate::blocks::{Block, split_line, whole_lines};
-use crate::fault::Fault;
+use crate::blocks::{InputBlock, split_line, whole_lines};
+use crate::fault::FilterFault;
 use regex_lite::RegexSearcher;
 use regex_lite::laws::searches_find_the_first_match;
 use std::alloc::Global;
@@ -37,7 +37,7 @@ pub fn filter<R: Read, W: Write>(
     selection: Selection,
     input: &mut R,
     output: &mut W,
-) -> Result<bool, Fault>
+) -> Result<bool, FilterFault>
     ensures filtered { IfOk result (λ found. IfSome (R.remaining input.old) (λ bytes.
         AreFiltered (IsSelected selection (LineMatches searcher.old)) (lines_of bytes)
         (W.contents output.old) (W.contents output.new) found)) }
@@ -47,7 +47,7 @@ pub fn filter<R: Read, W: Write>(
         (W.contents output.old) (W.contents output.new))) }
     ensures same { searcher.new ≡ searcher.old }
 {
-    let mut block = Block::new(alloc);
+    let mut block = InputBlock::new(alloc);
     let mut found = false;
     for _turn in 0..u64::MAX {
         let start = block.len();
@@ -59,7 +59,7 @@ pub fn filter<R: Read, W: Write>(
         found |= write_lines(searcher, selection, &block.as_slice()[..end], output)?;
         block.drop_front(end);
     }
-    Err(Fault::Unreadable)
+    Err(FilterFault::Unreadable)
 }
 
 /// Writes those of these lines that are selected, and returns whether there is one.
@@ -68,7 +68,7 @@ fn write_lines<W: Write>(
     selection: Selection,
     lines: &[u8],
     output: &mut W,
-) -> Result<bool, Fault>
+) -> Result<bool, FilterFault>
     ensures filtered { IfOk result (λ found.
         AreFiltered (IsSelected selection (LineMatches searcher.old)) (lines_of lines.now)
         (W.contents output.old) (W.contents output.new) found) }

@@ -7,7 +7,7 @@ mod blocks;
 mod fault;
 mod filter;
 
-use fault::Fault;
+use fault::FilterFault;
 use filter::{Selection, filter};
 use regex_lite::Regex;
 use std::io::{BufWriter, Write};
@@ -26,7 +26,7 @@ fn main(rt: HostRuntime) -> ExitCode {
 }
 
 /// Filters standard input as the arguments ask, and returns whether a line was written.
-fn run(rt: &HostRuntime) -> Result<bool, Fault> {
+fn run(rt: &HostRuntime) -> Result<bool, FilterFault> {
     let alloc = rt.alloc();
     let mut words: Vec<String> = Vec::new(alloc);
     for word in env::args(rt)?.skip(1) {
@@ -37,12 +37,16 @@ fn run(rt: &HostRuntime) -> Result<bool, Fault> {
         [flag, pattern] if flag.as_str() == "-v" => {
             filter_input(rt, Selection::Others, pattern.as_str())
         }
-        _ => Err(Fault::Usage),
+        _ => Err(FilterFault::Usage),
     }
 }
 
 /// Filters standard input with this pattern, and returns whether a line was written.
-fn filter_input(rt: &HostRuntime, selection: Selection, pattern: &str) -> Result<bool, Fault> {
+fn filter_input(
+    rt: &HostRuntime,
+    selection: Selection,
+    pattern: &str,
+) -> Result<bool, FilterFault> {
     let alloc = rt.alloc();
     let regex = Regex::new(alloc, pattern)?;
     let mut searcher = regex.searcher()?;

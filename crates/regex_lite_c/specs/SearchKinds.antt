@@ -15,7 +15,7 @@ use Rattle.regex_lite_c.specs.ListSpans.{AreFirstListGroups, FindsListSpan, Tell
 use Rattle.regex_lite_c.specs.Spans.{AreFirstGroups, FindsSpan, TellsSpan}
 use Rattle.regex_lite_c.specs.Whole.{AreWholeGroups, AreWholeListGroups, FindsWholeListSpan}
 use Rattle.regex_lite_c.specs.Whole.{FindsWholeSpan, TellsWholeListSpan, TellsWholeSpan}
-use Rattle.regex_lite_c.specs.declared.anchored.Anchored.{Anchored}
+use Rattle.regex_lite_c.specs.declared.anchored.SoughtAt.{SoughtAt}
 use Rattle.regex_lite_c.specs.declared.list.listed.Listed.{Listed}
 use Rattle.regex_lite_c.specs.declared.list.types.ListGroups.{ListGroups}
 use Rattle.regex_lite_c.specs.declared.list.types.ListSpan.{ListSpan}
@@ -52,7 +52,7 @@ patterns_search = record {
 }
 
 -- the anchored search for a regex
-abbrev pub anchored_regex_search : SearchKind (Anchored Expression) Span ℕ
+abbrev pub anchored_regex_search : SearchKind (SoughtAt Expression) Span ℕ
 anchored_regex_search = record {
   Matches = λ own haystack start. MatchesAt own.sought.now haystack start;
   Finds = λ own haystack start span. FindsSpanAt own.sought.now haystack start span;
@@ -63,7 +63,7 @@ anchored_regex_search = record {
 }
 
 -- the anchored search for several patterns
-abbrev pub anchored_patterns_search : SearchKind (Anchored (List Expression)) ListSpan ListGroups
+abbrev pub anchored_patterns_search : SearchKind (SoughtAt (List Expression)) ListSpan ListGroups
 anchored_patterns_search = record {
   Matches = λ own haystack start. SomeMatchesAt own.sought.now haystack start;
   Finds = λ own haystack start span. FindsListSpanAt own.sought.now haystack start span;

@@ -16,12 +16,12 @@ use std::alloc::Global;
 
 /// An anchored search for what it borrows.
 #[derive(Drop)]
-pub(crate) struct Anchored<'r, P> {
+pub(crate) struct SoughtAt<'r, P> {
     /// What is searched for.
     pub(crate) sought: &'r P,
 }
 
-impl<'r> Search for Anchored<'r, Regex> {
+impl<'r> Search for SoughtAt<'r, Regex> {
     ghost use Rattle.regex_lite_c.specs.SearchKinds.{anchored_regex_search};
 
     type Span = Span;
@@ -69,7 +69,7 @@ pub extern "C" fn regex_lite_is_match_anchored(
     let Some(regex) = handle.take(alloc) else {
         return NOTHING_HELD;
     };
-    let answer = is_match(&Anchored { sought: &*regex }, text, start);
+    let answer = is_match(&SoughtAt { sought: &*regex }, text, start);
     handle.put(regex);
     answer
 }
@@ -93,7 +93,7 @@ pub extern "C" fn regex_lite_find_anchored(
     let Some(regex) = handle.take(alloc) else {
         return NOTHING_HELD;
     };
-    let answer = find(&Anchored { sought: &*regex }, text, start, span);
+    let answer = find(&SoughtAt { sought: &*regex }, text, start, span);
     handle.put(regex);
     answer
 }
@@ -118,7 +118,7 @@ pub extern "C" fn regex_lite_captures_anchored(
     let Some(regex) = handle.take(alloc) else {
         return NOTHING_HELD;
     };
-    let answer = captures(&Anchored { sought: &*regex }, text, start, spans, count);
+    let answer = captures(&SoughtAt { sought: &*regex }, text, start, spans, count);
     handle.put(regex);
     answer
 }

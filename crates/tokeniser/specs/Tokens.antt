@@ -4,8 +4,8 @@ use Rattle.regex_lite.specs.Errors.{out_of_memory}
 use Rattle.regex_lite.specs.Expression.{Expression}
 use Rattle.regex_lite.specs.MatchOffsets.{MatchesAt, PrefersSpan}
 use Rattle.tokeniser.specs.declared.tokens.Token.{Token}
-use Rattle.tokeniser.specs.declared.tokens.Fault.{Fault}
-use Rattle.tokeniser.specs.declared.tokens.Fault.TheVariants.{NoRule, Empty, Refused}
+use Rattle.tokeniser.specs.declared.tokens.TokenFault.{TokenFault}
+use Rattle.tokeniser.specs.declared.tokens.TokenFault.TheVariants.{NoRule, Empty, Refused}
 
 -- this is the lowest rule that matches at `at`, and the match that it prefers there ends at `end`
 pub record IsPartAt (rules : List Expression) (text : List ℕ) (number at end : ℕ) : Type 0 where
@@ -35,7 +35,7 @@ AreTokensUpTo rules text at =
     (tokens : List Token) × AreTokens rules text 0 tokens at × (at < length text)
 
 -- what a fault says is true: where the tokens end no rule matches, or one matches the empty text
-abbrev pub IsFault : (rules : List Expression) → (text : List ℕ) → Fault → Type 0
+abbrev pub IsFault : (rules : List Expression) → (text : List ℕ) → TokenFault → Type 0
 IsFault rules text (NoRule at) =
     AreTokensUpTo rules text at
     × ((number : ℕ) (rule : Expression) → slice_get rules number ≡ Some rule

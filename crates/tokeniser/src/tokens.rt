@@ -18,7 +18,7 @@ pub struct Token<'t> {
 
 /// The reason why a text has no tokens.
 #[derive(Debug, Drop)]
-pub enum Fault {
+pub enum TokenFault {
     /// No rule matches at this offset, where the last token ends.
     NoRule(usize),
     /// The token at this offset is empty, by the rule with this index.
@@ -27,36 +27,36 @@ pub enum Fault {
     Refused(Error),
 }
 
-impl fmt::Display for Fault {
+impl fmt::Display for TokenFault {
     fn fmt<W: fmt::Write>(&self, f: &mut fmt::Formatter<W>) -> fmt::Result {
         match self {
-            Fault::NoRule(at) => write!(f, "no rule matches at {at}"),
-            Fault::Empty(at, rule) => write!(f, "rule {rule} matches the empty text at {at}"),
-            Fault::Refused(error) => write!(f, "{error}"),
+            TokenFault::NoRule(at) => write!(f, "no rule matches at {at}"),
+            TokenFault::Empty(at, rule) => write!(f, "rule {rule} matches the empty text at {at}"),
+            TokenFault::Refused(error) => write!(f, "{error}"),
         }
     }
 }
 
-impl From<Error> for Fault {
+impl From<Error> for TokenFault {
     ghost use Rattle.std.specs.Prelude.{◌≡◌};
-    ghost use Rattle.tokeniser.specs.declared.tokens.Fault.TheVariants.{Refused};
+    ghost use Rattle.tokeniser.specs.declared.tokens.TokenFault.TheVariants.{Refused};
 
     ghost from_gives = { λ error fault. fault ≡ Refused error };
 
-    fn from(error: Error) -> Fault {
-        Fault::Refused(error)
+    fn from(error: Error) -> TokenFault {
+        TokenFault::Refused(error)
     }
 }
 
-impl<T: Drop> From<AllocFailed<T>> for Fault {
+impl<T: Drop> From<AllocFailed<T>> for TokenFault {
     ghost use Rattle.std.specs.Prelude.{◌≡◌};
     ghost use Rattle.regex_lite.specs.Errors.{out_of_memory};
-    ghost use Rattle.tokeniser.specs.declared.tokens.Fault.TheVariants.{Refused};
+    ghost use Rattle.tokeniser.specs.declared.tokens.TokenFault.TheVariants.{Refused};
 
     ghost from_gives = { λ _ fault. fault ≡ Refused out_of_memory };
 
-    fn from(_: AllocFailed<T>) -> Fault {
-        Fault::Refused(Error::memory())
+    fn from(_: AllocFailed<T>) -> TokenFault {
+        TokenFault::Refused(Error::memory())
     }
 }
 
@@ -73,7 +73,7 @@ pub fn tokenise<'t>(
     alloc: Global,
     rules: &RegexList,
     text: &'t str,
-) -> Result<Vec<Token<'t>>, Fault>
+) -> Result<Vec<Token<'t>>, TokenFault>
     ensures tokens { IfOk result
         (λ tokens. AreTokens rules.now text.now 0 tokens.items (length text.now)) }
     ensures whole { IfOk result
@@ -89,7 +89,7 @@ fn tokens_of<'t>(
     alloc: Global,
     searcher: &mut RegexListSearcher<'_>,
     text: &'t str,
-) -> Result<Vec<Token<'t>>, Fault>
+) -> Result<Vec<Token<'t>>, TokenFault>
     ensures tokens { IfOk result
         (λ tokens. AreTokens searcher.old text.now 0 tokens.items (length text.now)) }
     ensures whole { IfOk result
@@ -101,10 +101,10 @@ fn tokens_of<'t>(
     let mut at = 0;
     while at < text.len() {
         let Some((rule, found)) = searcher.find_anchored_at(text, at) else {
-            return Err(Fault::NoRule(at));
+            return Err(TokenFault::NoRule(at));
         };
         if found.is_empty() {
-            return Err(Fault::Empty(at, rule));
+            return Err(TokenFault::Empty(at, rule));
         }
         tokens.push(Token {
             rule,

@@ -5,7 +5,7 @@ ghost use Rattle.regex_lite_c.specs.Anchored.{FindsListSpanAt, TellsListSpanAt};
 ghost use Rattle.regex_lite_c.specs.Answers.{IsSearchAnswer};
 ghost use Rattle.regex_lite_c.specs.GroupAnswers.{IsAnchoredListGroupsAnswer};
 
-use crate::anchored::Anchored;
+use crate::anchored::SoughtAt;
 use crate::answer::{NOTHING_HELD, YES};
 use crate::groups::captures;
 use crate::handle::{Holds, ListHandle};
@@ -16,7 +16,7 @@ use crate::types::Span;
 use regex_lite::{Captures, Error, RegexList};
 use std::alloc::Global;
 
-impl<'r> Search for Anchored<'r, RegexList> {
+impl<'r> Search for SoughtAt<'r, RegexList> {
     ghost use Rattle.regex_lite_c.specs.SearchKinds.{anchored_patterns_search};
 
     type Span = ListSpan;
@@ -67,7 +67,7 @@ pub extern "C" fn regex_lite_list_is_match_anchored(
     let Some(list) = handle.take(alloc) else {
         return NOTHING_HELD;
     };
-    let answer = is_match(&Anchored { sought: &*list }, text, start);
+    let answer = is_match(&SoughtAt { sought: &*list }, text, start);
     handle.put(list);
     answer
 }
@@ -92,7 +92,7 @@ pub extern "C" fn regex_lite_list_find_anchored(
     let Some(list) = handle.take(alloc) else {
         return NOTHING_HELD;
     };
-    let answer = find(&Anchored { sought: &*list }, text, start, span);
+    let answer = find(&SoughtAt { sought: &*list }, text, start, span);
     handle.put(list);
     answer
 }
@@ -118,7 +118,7 @@ pub extern "C" fn regex_lite_list_captures_anchored(
     let Some(list) = handle.take(alloc) else {
         return NOTHING_HELD;
     };
-    let answer = captures(&Anchored { sought: &*list }, text, start, spans, reported);
+    let answer = captures(&SoughtAt { sought: &*list }, text, start, spans, reported);
     handle.put(list);
     answer
 }

@@ -5,7 +5,7 @@ use Rattle.std.proofs.lemmas.Bool.{false≢true}
 use Rattle.std.proofs.lemmas.List.{with_items_is}
 use borrow.Rule.Slice.PartMut.{post_of, put_mid}
 use Rattle.line_filter.proofs.BlockLemmas.{held_in, long_as_before, read_in}
-use Rattle.line_filter.proofs.blocks.Block.read_from.Goals as goal
+use Rattle.line_filter.proofs.blocks.InputBlock.read_from.Goals as goal
 
 pub returns-in-Ok-clause-read : goal.returns-in-Ok-clause-read
 returns-in-Ok-clause-read g c =

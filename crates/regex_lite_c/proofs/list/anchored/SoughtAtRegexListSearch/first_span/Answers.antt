@@ -1,5 +1,5 @@
 use Rattle.regex_lite_c.proofs.anchored.AnchoredLemmas.{finds_list_span_at}
-use Rattle.regex_lite_c.proofs.list.anchored.AnchoredRegexListSearch.first_span.Goals as goal
+use Rattle.regex_lite_c.proofs.list.anchored.SoughtAtRegexListSearch.first_span.Goals as goal
 
 pub returns-in-Some : goal.returns-in-Some
 returns-in-Some c =
