@@ -196,14 +196,27 @@ def parts(cases: str) -> Iterator[list[str]]:
     yield part
 
 
-def change(repository: Path, changes: Iterable[Change]) -> None:
+def changed(repository: Path, change: Change) -> str:
+    """The text of a file of the repository with this change, for which it has to have one place."""
+    path, old, new = change
+    text, count = re.subn(old, new, (repository / path).read_text(encoding='utf-8'),
+                          flags=re.DOTALL)
+    if count != 1:
+        sys.exit(f'{path} has {count} places like {old}, and not one')
+    return text
+
+
+def make_changes(repository: Path, changes: Iterable[Change]) -> None:
     """Makes each change in a file of the repository, once."""
-    for path, old, new in changes:
-        file = repository / path
-        text, count = re.subn(old, new, file.read_text(encoding='utf-8'), flags=re.DOTALL)
-        if count != 1:
-            sys.exit(f'{path} has {count} places like {old}, and not one')
-        file.write_text(text, encoding='utf-8')
+    for change in changes:
+        text = changed(repository, change)
+        (repository / change[0]).write_text(text, encoding='utf-8')
+
+
+def check_places(changes: Iterable[Change]) -> None:
+    """Ends the program unless each change has its place in our libraries."""
+    for change in changes:
+        changed(TOP, change)
 
 
 def replay(cases: str, seconds: int = 600, changes: Sequence[Change] = ()) -> int:
@@ -215,7 +228,7 @@ def replay(cases: str, seconds: int = 600, changes: Sequence[Change] = ()) -> in
     with tempfile.TemporaryDirectory() as folder:
         repository = Path(folder) / 'repository'
         lay_out(repository, program_files(CALLER))
-        change(repository, changes)
+        make_changes(repository, changes)
         rt = lay_out_optimising_kit(Path(folder) / 'kit')
         for part in parts(cases):
             done = run(repository, CALLER, options, ''.join(f'{line}\n' for line in part), rt)
