@@ -61,7 +61,7 @@ pub(crate) trait Sought: Written + Drop {
             (λ reported. IsFirst Self.search self.now text.now start reported.0) }
         ensures cost { IfOk result
             (λ reported. Self.kind.IsCost self.now text.now start reported.1) }
-        ensures entered { IfOk result (λ reported. IfSome reported.0 (λ _. 0 < reported.1.entered)) };
+        ensures entered { IfOk result (λ answer. IfSome answer.0 (λ _. 0 < answer.1.entered)) };
 
     /// Writes the next matches after one that ended there, and returns their number.
     fn write_after(

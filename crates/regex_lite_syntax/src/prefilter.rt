@@ -14,7 +14,7 @@
 //! - [`Words`]: literals with one of which each match begins. A single one is found by its two
 //!   rarest letters, which blocks of 32 offsets are compared with (`pair`). Several are found by
 //!   shifts, as in the algorithm of Wu and Manber: the pair of bytes that ends a window as long as
-//!   the shortest word tells how far it may move, and a hash of the first letters leads to the words
+//!   the shortest word says how far it may move, and a hash of the first letters leads to the words
 //!   to compare (`shifts`). A rare letter that all of them share is looked for first. A letter may
 //!   stand for both of its cases. A pattern that is nothing but its words needs no engine.
 //! - [`PrefixSets`]: the first set, and a second set if it has at most 16 ASCII characters. If few
@@ -22,31 +22,31 @@
 //!   for a byte, so that the compiler uses vectors.
 //! - [`Needed`]: up to four literals of which each match has one, with the set of characters that
 //!   may stand before it. From the next such literal a walk back over these characters leads to the
-//!   first possible start. This is used beside prefix sets or short words, and rules out the rest of
-//!   a haystack that has no such literal.
+//!   first possible start. This is used beside prefix sets or short words, and rules out the rest
+//!   of a haystack that has no such literal.
 //!
 //! [`PrefixIndex`] is an index of several trees: a row of bits for each first and each second
-//! character, with a bit for each pattern, and a mask of third characters. If each pattern of a list
-//! needs a literal and these are at most four, the list has them all as its [`Needed`]. [`ListWords`]
-//! has the words of a list of which each pattern is nothing but words.
+//! character, with a bit for each pattern, and a mask of third characters. If each pattern of a
+//! list needs a literal and these are at most four, the list has them all as its [`Needed`].
+//! [`ListWords`] has the words of a list of which each pattern is nothing but words.
 //!
 //! # Trade-offs and limits
 //!
 //! Which facts are used is estimated when a pattern is compiled, by the ranks of bytes in common
 //! texts (`frequency`, `gain`). Searches take no samples, so a filter that proves unselective is
-//! not switched off. Only what tells which patterns of a list match has a budget
+//! not switched off. Only the search that says which patterns of a list match has a budget
 //! (`shifts::marking`). Words that begin with few or rare bytes, such as `cat|dog`, are left to the
-//! search for these bytes. An alternation gives a word for each branch, and no word goes on behind
-//! it, nor behind an operator without a fixed number of passes, nor into a class that is no letter
+//! search for these bytes. An alternation gives a word for each branch, and no word goes on after
+//! it, nor after an operator without a fixed number of passes, nor into a class that is no letter
 //! in both cases. So words are not multiplied, and there are 10,000 at most. A needed literal has 8
 //! letters at most. Looks are taken to hold, but a pattern that begins with `\A` starts at offset 0
 //! alone. Words lie on the heap, and where that memory is refused, none are known.
 //!
 //! # Where it is used
 //!
-//! `search/start_finder.rt` of `regex_lite_engine` skips offsets by it, for a pattern and for a list,
-//! for both engines and for the lazy DFA, and `strategy` in `regex_lite_meta` chooses by how matches
-//! begin. Read `filter` next, then `first_set`, `prefixes` and `words`.
+//! `search/start_finder.rt` of `regex_lite_engine` skips offsets by it, for a pattern and for a
+//! list, for both engines and for the lazy DFA, and `strategy` in `regex_lite_meta` chooses by how
+//! matches begin. Read `filter` next, then `first_set`, `prefixes` and `words`.
 ghost use Rattle.std.specs.Prelude.{◌≡◌, ◌≤◌, ◌<◌, ◌+◌, ◌*◌, ℕ, IfSome};
 ghost use Rattle.std.specs.Prelude.{IsTrue, false, true, length, slice_index};
 ghost use Rattle.regex_lite_syntax.specs.declared.prefilter.Prefilter.TheVariants.{

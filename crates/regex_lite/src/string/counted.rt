@@ -12,7 +12,7 @@ use regex_lite_engine::Steps;
 use regex_lite_meta::{search, search_any, search_shortest};
 use regex_lite_syntax::Error;
 
-/// Let n be the number of characters from the start to the haystack's end, [`Regex::places`] the
+/// Let n be how many characters the haystack has after the start, [`Regex::places`] the
 /// number of NFA states (places) and [`Regex::arrows`] the number of transitions (arrows). A search
 /// tries at most (arrows + 1) × (n + 1) places, and enters at most places × (n + 1). A search from
 /// above the length tries none. One that finds a match has entered a place.

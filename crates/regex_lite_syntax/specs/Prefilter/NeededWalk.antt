@@ -31,7 +31,7 @@ AreAmong starts bytes count =
     (k : ℕ) → k < count → begins_with starts (slice_index bytes k) ≡ true
 
 -- one of the best words stands in the bytes of a match, and the row right before the rest of them,
--- each behind characters that may lead to it. A word without letters stands everywhere
+-- each after characters that may lead to it. A word without letters stands everywhere
 pub record HasFound (bytes rest : List ℕ) (walk : NeededWalk) : Type 0 where
   pub best : Reaches (as_needed walk.best walk.best_lead) bytes 0
   pub row_at : ℕ
@@ -55,7 +55,7 @@ pub record Chooses (tree : Tree) (before after : NeededWalk) : Type 0 where
       → HasFound bytes (encode_utf8_all (drop i haystack)) after
   pub read : after.read ≡ before.read
 
--- what was found stays found behind any characters that are counted as read
+-- what was found stays found after any characters that are counted as read
 pub record Leaves (before after : NeededWalk) : Type 0 where
   pub finds : (haystack : Text) (bytes : List ℕ) (i j : ℕ) → i ≤ j
       → AreBetween after.read haystack i j
@@ -63,7 +63,7 @@ pub record Leaves (before after : NeededWalk) : Type 0 where
       → HasFound bytes (encode_utf8_all (drop j haystack)) after
   pub wider : IsWider before.read after.read
 
--- what was found before a byte that is the letter is also found behind it, and the byte is counted
+-- what was found before a byte that is the letter is also found after it, and the byte is counted
 -- as read
 pub record FindsLetter (letter : Letter) (before after : NeededWalk) : Type 0 where
   pub finds : (bytes rest : List ℕ) (byte : ℕ) → IsLetter letter byte
@@ -71,7 +71,7 @@ pub record FindsLetter (letter : Letter) (before after : NeededWalk) : Type 0 wh
   pub reads : (byte : ℕ) → IsLetter letter byte → begins_with after.read byte ≡ true
   pub wider : IsWider before.read after.read
 
--- what was found before these bytes is also found behind them, and they are counted as read
+-- what was found before these bytes is also found after them, and they are counted as read
 pub record FindsBytes (read : List ℕ) (before after : NeededWalk) : Type 0 where
   pub finds : (bytes rest : List ℕ) → HasFound bytes (read ++ rest) before
       → HasFound bytes rest after

@@ -13,7 +13,7 @@ use regex_lite_engine::Steps;
 use regex_lite_meta::{search_list, search_list_any};
 use regex_lite_syntax::Error;
 
-/// Let n be the number of characters from the start to the haystack's end, [`RegexList::places`]
+/// Let n be how many characters the haystack has after the start, [`RegexList::places`]
 /// the number of NFA states (places), [`RegexList::arrows`] the number of transitions (arrows) and
 /// [`RegexList::len`] the number of patterns. A search tries at most (arrows + patterns) × (n + 1)
 /// places, and enters at most places × (n + 1). A search from above the length tries none. One that

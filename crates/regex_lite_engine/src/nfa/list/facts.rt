@@ -34,7 +34,7 @@ pub(super) fn groups_of(alloc: Global, hirs: &[Measured]) -> Result<Vec<Groups>,
     Ok(groups)
 }
 
-/// The filter of each of these trees, in their order: what the whole trees tell, if they are few.
+/// The filter of each of these trees, in their order: that of the whole tree, if the trees are few.
 ///
 /// # Errors
 ///
@@ -54,7 +54,7 @@ pub(super) fn filters_of(
     Ok(filters)
 }
 
-/// The filter of this tree: what the whole tree tells, if it is one of few.
+/// The filter of this tree: that of the whole tree, if it is one of few.
 ///
 /// # Errors
 ///
@@ -122,7 +122,7 @@ pub(super) fn words_of(alloc: Global, hirs: &[Measured]) -> Option<Box<ListWords
 
 /// Words of which one stands in each match of any of these trees, if some are known and there is
 /// memory. None are looked for where each match begins with a word that its filter knows: there
-/// the index tells as much. A tree alone is searched for as that of a regex is.
+/// the index says as much. A tree alone is searched for as that of a regex is.
 pub(super) fn needed_of(
     alloc: Global,
     hirs: &[Measured],

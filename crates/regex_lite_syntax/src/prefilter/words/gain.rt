@@ -7,13 +7,13 @@ use crate::prefilter::words::word_list::WordList;
 /// What it costs to pass over a hundred bytes of which none is looked for.
 const PASSED: usize = 13;
 
-/// Where two bytes are looked for together, one stop in so many is left.
+/// Where two bytes are looked for together, one stop in this many is left.
 const RULED_OUT: usize = 8;
 
 /// As many bytes at most are compared with each byte of a haystack at once.
 const FEW: usize = 2;
 
-/// Words of so many letters at most are short.
+/// Words of at most this many letters are short.
 pub(super) const SHORT: usize = 3;
 
 /// The bytes that words have at one place.
@@ -52,7 +52,7 @@ impl Column {
     }
 }
 
-/// Whether shifts over so many letters cost no more than a search for the bytes with which the
+/// Whether shifts over this many letters cost no more than a search for the bytes with which the
 /// words begin, and a look at each place where one stands. They cost more where these bytes are
 /// few or rare and the words short: `cat|dog` took 2.1 times as much by shifts in English text,
 /// `ab|cd` 7 times, and `GET|POST|PUT|HEAD|DELETE` 3.4 times in prose.
@@ -136,12 +136,12 @@ fn ascii_byte(hir: &Hir) -> Option<u8> {
     }
 }
 
-/// Whether shifts of so many bytes at most cost no more than to stop so often in a thousand bytes.
+/// Whether shifts of at most this many bytes cost no more than this many stops in a thousand bytes.
 fn pays(stops: usize, reach: usize) -> bool {
     cost_of_shifts(reach) <= PASSED.saturating_add(stops.saturating_mul(3) / 2)
 }
 
-/// What a hundred bytes cost by shifts of so many bytes at most.
+/// What a hundred bytes cost by shifts of at most this many bytes.
 fn cost_of_shifts(reach: usize) -> usize {
     match reach {
         0..=2 => 130,

@@ -87,7 +87,7 @@ impl ListWords {
         self.words.may_stand(bytes, at)
     }
 
-    /// Tells of each pattern, by its number, whether a word of it stands at this offset or after
+    /// Reports for each pattern, by its number, whether a word of it stands at this offset or after
     /// it.
     ///
     /// Conditions: there is room for as many answers as there are patterns, and the offset is at
@@ -146,7 +146,7 @@ impl Gathered {
     }
 }
 
-/// Adds these words behind the others. Returns whether there was room.
+/// Adds these words after the others. Returns whether there was room.
 ///
 /// # Errors
 ///
@@ -164,7 +164,7 @@ fn append(list: &mut WordList, more: &WordList) -> Result<bool, AllocError>
     Ok(true)
 }
 
-/// Adds the number of a pattern that has so many words.
+/// Adds the number of a pattern that has this many words.
 ///
 /// # Errors
 ///
