@@ -177,7 +177,7 @@ void no_such_pattern() {
 }
 
 void costs() {
-    const RegexList list{"(?:a|b)*c", "(?:b|a)*d"};
+    const RegexList list{"(?:a|b)*[cx]", "(?:b|a)*[dx]"};
     const std::string text = repeated("ab", 50);
     const auto none = list.find_counted(text);
     WANT(!none.found && none.cost.tried > 0 && none.cost.tried <= (list.arrows() + 2) * 101);

@@ -192,7 +192,7 @@ fn which() -> Result<(), ListError> {
 
 #[test]
 fn costs() -> Result<(), ListError> {
-    let list = RegexList::new(["(?:a|b)*c", "(?:b|a)*d"])?;
+    let list = RegexList::new(["(?:a|b)*[cx]", "(?:b|a)*[dx]"])?;
     let text = "ab".repeat(50);
     let (found, cost) = list.find_counted(&text);
     assert_eq!(found, None);
