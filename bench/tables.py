@@ -9,7 +9,7 @@ import re
 from collections.abc import Iterable, Sequence
 from typing import NamedTuple, Optional
 
-DATA = os.environ.get('DATA')
+DATA = os.environ.get('DATA') or None
 NUMBER = re.compile(r'-?[\d,]+(?:\.\d+)?(?: (?:ns|µs|ms|s))?')
 RATIOS = ['ratio', 'ratio to regex']
 
@@ -59,6 +59,7 @@ def keep(folder: str, name: str, head: list[str], lines: list[list[str]]) -> Non
     """Writes a table to its file in the folder, below what this process has written to it."""
     is_begun = name in _begun
     _begun.add(name)
+    os.makedirs(folder, exist_ok=True)
     with open(os.path.join(folder, f'{name}.tsv'), 'a' if is_begun else 'w',
               encoding='utf-8') as file:
         file.writelines('\t'.join(map(plain, fields)) + '\n'

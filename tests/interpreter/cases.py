@@ -26,7 +26,7 @@ LIMITS = 21  # the limits of calls on these are below this
 MANY = 0.02  # lists of more patterns than fill a word of bits, or two
 NUMBERS = (63, 64, 65, 127, 128, 129)
 
-LONG = 4_200  # characters: in a haystack of so many bytes iterators remember their turns
+LONG = 4_200  # characters: in a haystack of so many bytes iterators cache their transitions
 
 
 class Drawn(NamedTuple):

@@ -1,4 +1,4 @@
--- A transition is independent of the position and of where threads began: it holds at every
+-- A step is independent of the position and of where threads began: it holds at every
 -- position with the same neighbours, whatever is known of the starts, if no slots are kept.
 use Rattle.std.specs.Prelude.{◌≡◌, ℕ, Bool, true, false, List, []}
 use Rattle.std.specs.Prelude.{◌∷◌, map, slice_get, Option, Some, None}
@@ -48,7 +48,7 @@ all_relabelled tell threads = map (relabelled tell) threads
 abbrev pub state_relabelled : (Reported → Reported) → State → State
 state_relabelled tell state = record state { row = []; next = all_relabelled tell state.next }
 
--- the best match after the transition: the one before, or one that ends at this offset
+-- the best match after the step: the one before, or one that ends at this offset
 abbrev pub best_again : (Reported → Reported) → (at : ℕ) → (match_flag : Bool)
     → (found before : Best) → Best
 best_again tell at false found before = before

@@ -68,7 +68,7 @@ module _ (table : List (Place ℕ)) where
       best (state_relabelled tell cache'.walk.memory) []
       (best_again tell there.at match_flag (best_of cache'.best) best)
 
-  -- a transition holds at every position with the same neighbours at which the same starts suffice,
+  -- a step holds at every position with the same neighbours at which the same starts suffice,
   -- as long as there is a match in both searches or in neither
   abbrev pub StepsAgain : {S : Type 0} → List Start → Here → (reported : ℕ → Reported) → Cache S
       → Cache S → (match_flag : Bool) → Type 0

@@ -9,7 +9,7 @@ use crate::search::here::Here;
 use crate::search::list_skip::skip_all;
 use crate::search::patterns::{Patterns, Start};
 
-/// The patterns of a list. All of them start at each position, so that a transition is independent
+/// The patterns of a list. All of them start at each position, so that a step is independent
 /// of the position.
 #[derive(Clone, Copy)]
 pub struct AllOfList<'g> {

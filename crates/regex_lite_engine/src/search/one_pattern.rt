@@ -33,7 +33,7 @@ pub struct OnePattern<'g> {
 }
 
 impl<'g> OnePattern<'g> {
-    /// The pattern as one that starts everywhere, so that a transition is independent of the
+    /// The pattern as one that starts everywhere, so that a step is independent of the
     /// position.
     #[inline(always)]
     pub fn everywhere(&self) -> OnePattern<'g>

@@ -22,7 +22,8 @@ pub(super) struct SharedLetter {
 }
 
 impl SharedLetter {
-    /// One of the two rarest letters of the first word, if it is rare and stands in all words.
+    /// One of the two letters by which the first word alone would be looked for, if it is rare and
+    /// stands in all words.
     ///
     /// Condition: each word has two letters at least.
     pub(super) fn of(words: &WordList) -> Option<SharedLetter>
