@@ -39,9 +39,9 @@
 //!
 //! Following a cached transition takes some instructions and counts as no step. To build one costs
 //! more than a step of the PikeVM, so this pays in long haystacks and in searchers that are kept.
-//! There are at most 256 states, 7,168 transitions, and 2,176 NFA states in all of them (`capacity`),
-//! which take some 64 KB, and 127 classes: a pattern with more has no lazy DFA. All memory is
-//! requested when it is made, and where that is refused, searches go without it.
+//! There are at most 256 states, 7,168 transitions, and 2,176 NFA states in all of them
+//! (`capacity`), which take some 64 KB, and 127 classes: a pattern with more has no lazy DFA. All
+//! memory is requested when it is made, and where that is refused, searches go without it.
 //!
 //! A full cache is never reset. It keeps what it has, and the PikeVM takes all other steps. The
 //! lazy DFA of several patterns is dropped if, over 8 KB, more than one transition in 32 bytes
